@@ -1,0 +1,2 @@
+-- Laws of the rules that what stands above them rests on.
+pub mod Line

@@ -1,0 +1,38 @@
+-- The laws of the line: a gap is at least a second, and a train in between makes no wait shorter.
+-- What is shown of schedules rests on these two, and on nothing else about who waits how long.
+use mathlib.Core.Bool.{Bool, true, false, _&&_}
+use mathlib.Core.Logic.{_↔_}
+use Prim.Native.Nat.{ℕ, _+_, _≤_, _<_}
+use native.Mathlib.Omega.{arith}
+use lib.Dec.{T, leb, leb→le, le→leb}
+use Rattle.rules.specs.declared.Timing.{Timing}
+use Rattle.rules.specs.Line.{Station, one, two, good-running, good-headway, good-timing, gap}
+
+-- a test of two parts passes where both do
+pub both : (a b : Bool) → T (a && b) ↔ (T a × T b)
+both true b = (λ h. (tt, h), λ h. h .1)
+both false b = (absurd, λ h. h .0)
+
+at-most : (m n : ℕ) → T (leb m n) ↔ (m ≤ n)
+at-most m n = (leb→le m n, le→leb m n)
+
+module _ (t : Timing) (good : T (good-timing t)) where
+  headway-bounds : (0 < t .headway) × (t .headway < t .running)
+  unfolding good-running good-headway good-timing
+  headway-bounds = omega (arith, simp (both, at-most) at good)
+
+  pub gap-positive : (s s′ : Station) → 0 < gap t s s′
+  gap-positive one one = headway-bounds .0
+  gap-positive one two = omega (arith, headway-bounds)
+  gap-positive two one = omega (arith, headway-bounds)
+  gap-positive two two = headway-bounds .0
+
+  pub gap-triangle : (s s′ s″ : Station) → gap t s s″ ≤ gap t s s′ + gap t s′ s″
+  gap-triangle one one one = omega arith
+  gap-triangle one one two = omega arith
+  gap-triangle one two one = omega (arith, headway-bounds)
+  gap-triangle one two two = omega arith
+  gap-triangle two one one = omega arith
+  gap-triangle two one two = omega (arith, headway-bounds)
+  gap-triangle two two one = omega arith
+  gap-triangle two two two = omega arith

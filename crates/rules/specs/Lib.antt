@@ -1,0 +1,14 @@
+-- The rules of the line as definitions, a file for each heading, in the order in which they build on one another.
+-- This is all that a reader has to believe: every promise and every theorem is stated over these files.
+pub mod Lists
+pub mod Line
+pub mod Figures
+pub mod Objectives
+pub mod Trains
+pub mod Safe
+pub mod Value
+pub mod Orders
+pub mod Refusals
+pub mod Answers
+pub mod Sections
+pub mod Cases
