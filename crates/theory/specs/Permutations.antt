@@ -1,0 +1,8 @@
+-- The same elements in another order.
+use mathlib.Core.List.{List, [], _∷_}
+
+pub data Perm {X : Type 0} : List X → List X → Type 0 where
+  none : Perm [] []
+  keep : {x : X} {xs ys : List X} → Perm xs ys → Perm (x ∷ xs) (x ∷ ys)
+  turn : {x y : X} {zs : List X} → Perm (x ∷ y ∷ zs) (y ∷ x ∷ zs)
+  then : {xs ys zs : List X} → Perm xs ys → Perm ys zs → Perm xs zs
