@@ -28,7 +28,7 @@ module _ (L : Line) where
   alike-on : {x y z : Train} → Alike x y → Alike y z → Alike x z
   alike-on a b = record { waits = λ w. a .waits w ∙ b .waits w; keeps = λ w. a .keeps w ∙ b .keeps w }
 
-  apart-alike : (r s : Run Train) {x : Train}
+  pub apart-alike : (r s : Run Train) {x : Train}
       → Alike (s .train) x → Apart L r s → Apart L r (record { train = x; departure = s .departure })
   apart-alike r s a (Apart.first l) = Apart.first (record { waits = rw (a .waits (r .train)) at (l .waits) })
   apart-alike r s a (Apart.second l) = Apart.second (record { waits = rw (a .keeps (r .train)) at (l .waits) })

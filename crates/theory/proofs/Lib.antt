@@ -5,6 +5,7 @@ pub mod Values
 pub mod Integers
 pub mod Facts
 pub mod Permutations
+pub mod Woven
 pub mod Apart
 pub mod Best
 pub mod FirstBest

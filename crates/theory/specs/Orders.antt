@@ -10,6 +10,12 @@ days [] ys = ys ∷ []
 days (x ∷ xs) [] = (x ∷ xs) ∷ []
 days (x ∷ xs) (y ∷ ys) = map (λ d. x ∷ d) (days xs (y ∷ ys)) ++ map (λ d. y ∷ d) (days (x ∷ xs) ys)
 
+-- an order in which each queue keeps its own
+pub data Woven {X : Type 0} : List X → List X → List X → Type 0 where
+  none : Woven [] [] []
+  first : {x : X} {xs ys day : List X} → Woven xs ys day → Woven (x ∷ xs) ys (x ∷ day)
+  second : {y : X} {xs ys day : List X} → Woven xs ys day → Woven xs (y ∷ ys) (y ∷ day)
+
 abbrev pub pick : {P X : Type 0} → Dec P → X → X → X
 pick (yes p) a b = a
 pick (no n) a b = b
@@ -32,11 +38,11 @@ module _ (W : Values) where
 
 module _ (L : Line) where
   open Line L using (values, Train, cost)
-  open Values values using (Val, _⊙_, compare, none)
+  open Values values using (Val, _⊙_, compare, none as nothing)
 
   -- the best of the rest from a clock: the smaller of what comes of sending either queue's next train
   abbrev pub best : Clock L → List Train → List Train → Val
-  best clock [] [] = none
+  best clock [] [] = nothing
   best clock [] (y ∷ ys) = cost y (clock y) ⊙ best (after L y (clock y)) [] ys
   best clock (x ∷ xs) [] = cost x (clock x) ⊙ best (after L x (clock x)) xs []
   best clock (x ∷ xs) (y ∷ ys) =

@@ -1,0 +1,68 @@
+-- What is known of a section that the planner does not refuse: its timing and its trains are good, and it has a train.
+use mathlib.Core.Bool.{Bool, true, false, not, _&&_, _||_, true≢false}
+use mathlib.Core.List.{List, [], _∷_, _++_, cons≢nil}
+use mathlib.Core.Logic.{_↔_, _≢_}
+use mathlib.Core.Path.{_≡_, refl, sym, _∙_}
+use Prim.Native.Nat.{ℕ, _+_, _*_, _/_, _%_, _<_}
+use native.Mathlib.Nat.{div-add-mod', zero-mul}
+use native.Mathlib.Omega.{arith}
+use lib.Dec.{T, eqb, eqb→eq, eqb-refl}
+use lib.ListN.{length}
+use Rattle.rules.specs.Line.{Station, one, two, good-timing}
+use Rattle.rules.specs.Trains.{Section, aim, list-at, count-at, count, Train, trains}
+use Rattle.rules.specs.Refusals.{refuse, naming, ragged, refusals}
+use Rattle.theory.specs.Schedule.{All}
+use Rattle.best.proofs.Pairwise.{none-fails}
+
+pub record Accepted (S : Section) : Type 0 where
+  pub timed : T (good-timing (S .timing))
+  pub good : All (λ x. T (aim S .good (x .figures))) (trains S)
+  pub filled : 0 < count S
+
+both-empty : {A : Type 0} (xs ys : List A) → (xs ++ ys ≡ []) ↔ ((xs ≡ []) × (ys ≡ []))
+both-empty [] ys = (λ e. (refl, e), λ h. h .1)
+both-empty (x ∷ xs) ys = (λ e. absurd (cons≢nil e), λ h. absurd (cons≢nil (h .0)))
+
+not-refused : (b : Bool) (n : ℕ) → refuse b n ≡ [] → b ≡ false
+unfolding refuse
+not-refused true n e = absurd (cons≢nil e)
+not-refused false n e = refl
+
+unnamed : (n : ℕ) (xs : List Train) → naming n xs ≡ [] → xs ≡ []
+unfolding naming
+unnamed n [] e = refl
+unnamed n (x ∷ xs) e = absurd (cons≢nil e)
+
+passes : (b : Bool) → not b ≡ false → T b
+passes true e = tt
+passes false e = absurd (true≢false e)
+
+neither : (a b : Bool) → a || b ≡ false → (a ≡ false) × (b ≡ false)
+neither true b e = absurd (true≢false e)
+neither false b e = (refl, e)
+
+module _ (S : Section) where
+  -- a list that fills no train, and leaves no number over, is empty
+  no-train : (s : Station) → ragged S s ≡ false → count-at S s ≡ 0 → length (list-at S s) ≡ 0
+  unfolding ragged count-at
+  no-train s whole e =
+      let n = length (list-at S s) in
+      let w = aim S .numbers in
+      sym (div-add-mod' n w) ∙ (rw (e, eqb→eq (n % w) 0 (passes (eqb (n % w) 0) whole), zero-mul))
+
+  has-train : ragged S one || ragged S two ≡ false → eqb (length (S .one)) 0 && eqb (length (S .two)) 0 ≡ false → 0 < count S
+  unfolding count
+  has-train whole some =
+      let (a, b) = neither (ragged S one) (ragged S two) whole in
+      let filled : count-at S one + count-at S two ≢ 0 = λ e. true≢false (rw (no-train one a (omega arith), no-train two b (omega arith)) at some) in
+      omega arith
+
+  pub accepted : (places : ℕ) → refusals S places ≡ [] → Accepted S
+  unfolding refusals
+  accepted places none =
+      let ((((((r₁, r₂), r₃), r₄), r₅), r₆), r₇) = simp both-empty at none in
+      record {
+        timed = passes (good-timing (S .timing)) (not-refused _ 2 r₂);
+        good = none-fails (λ x. aim S .good (x .figures)) (trains S) .0 (unnamed 6 _ r₆);
+        filled = has-train (not-refused _ 3 r₃) (not-refused _ 4 r₄);
+      }

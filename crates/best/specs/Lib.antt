@@ -1,0 +1,3 @@
+-- What is shown of the rules: that the plan is best, and what trainees ask.
+pub mod Fair
+pub mod Instance
