@@ -2,9 +2,8 @@
 use mathlib.Core.Bool.{cond}
 use mathlib.Core.List.{List, [], _∷_, map}
 use mathlib.Core.Path.{_≡_, refl, sym, _∙_, ap}
-use lib.Dec.{T}
 use lib.IntN.{ℤ}
-use lib.Signed.{_≤ℤ_, leZ, leZ-yes}
+use lib.Signed.{leZ, leZ-yes}
 use Rattle.rules.specs.Objectives.{Objective}
 use Rattle.rules.specs.Trains.{Train}
 use Rattle.rules.specs.Orders as R

@@ -1,11 +1,12 @@
 -- A section's line is lawful; the value of its schedules is their worth there, and its clock is the theory's.
 use mathlib.Core.List.{List, [], _∷_, map}
 use mathlib.Core.Path.{_≡_, refl, sym, _∙_, ap, ap₂}
-use Prim.Native.Nat.{ℕ, _+_, _≤_}
+use Prim.Native.Nat.{ℕ, _+_, _<_}
 use native.Mathlib.Omega.{arith}
 use lib.Dec.{T}
 use lib.IntN.{ℤ}
-use Rattle.rules.specs.Line.{Station, good-timing, running, arrival, gap}
+use lib.ListN.{length}
+use Rattle.rules.specs.Line.{Station, good-timing, arrival, gap}
 use Rattle.rules.specs.Trains.{Section, aim, Train, Run}
 use Rattle.rules.specs.Value.{cost-of, join-on, join-all}
 use Rattle.rules.specs.Orders.{sent}
@@ -36,9 +37,10 @@ module _ (S : Section) (F : Fair (aim S)) where
       ∙ ap (λ v. F .values ._⊙_ v (worth (line S F) rs)) (F .joins c (cost-of S r))
       ∙ F .ordered .assoc _ _ _
 
-  pub graded : (r : Run) (rs : List Run)
-      → F .grade (join-all (aim S .joined) (map (cost-of S) (r ∷ rs))) ≡ worth (line S F) (r ∷ rs)
-  graded r rs = graded-on (cost-of S r) rs
+  pub graded : (rs : List Run) → 0 < length rs
+      → F .grade (join-all (aim S .joined) (map (cost-of S) rs)) ≡ worth (line S F) rs
+  graded [] h = absurd (omega arith)
+  graded (r ∷ rs) h = graded-on (cost-of S r) rs
 
   pub sent-leaves : (clock : Station → ℕ) (early : Train → ℕ) → ((x : Train) → early x ≡ clock (x .station))
       → (xs : List Train) → leave (line S F) early xs ≡ sent (S .timing) clock xs

@@ -9,3 +9,7 @@ pub mod Numbers
 pub mod Reindex
 pub mod Accepted
 pub mod Safety
+pub mod Stations
+pub mod Days
+pub mod FirstOrder
+pub mod Demand

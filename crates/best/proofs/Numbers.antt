@@ -1,7 +1,7 @@
 -- Trains by number: a section's trains stand in the order of their numbers, from 0, with none left out.
 -- So departures written in that order are read back by number.
 use mathlib.Core.List.{List, [], _∷_, _++_, map, map-map, map-id, map-append, append-assoc}
-use mathlib.Core.Path.{_≡_, refl, ap}
+use mathlib.Core.Path.{_≡_, refl, _∙_, ap}
 use Prim.Native.Nat.{ℕ, zero, suc, _+_, _<_}
 use native.Mathlib.Nat.{zero-add, add-zero, suc-add, add-suc}
 use native.Mathlib.Numerals.{add-one}
@@ -88,3 +88,7 @@ module _ (S : Section) where
   pub runs-trains : (departures : List ℕ) → map (λ r. r .train) (runs S departures) ≡ trains S
   unfolding runs
   runs-trains departures = rw map-map (map-id (trains S))
+
+  pub runs-count : (departures : List ℕ) → length (runs S departures) ≡ count S
+  unfolding runs
+  runs-count departures = length-map (trains S) _ ∙ trains-count

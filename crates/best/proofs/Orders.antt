@@ -2,7 +2,7 @@
 use mathlib.Core.Bool.{Bool, cond}
 use mathlib.Core.List.{List, [], _∷_, _++_, map, map-map, map-append}
 use mathlib.Core.Path.{_≡_, refl, sym, _∙_, ap, ap₂}
-use Prim.Native.Nat.{ℕ, suc, zero}
+use Prim.Native.Nat.{suc, zero}
 use lib.ListN.{length}
 use Rattle.rules.specs.Line.{one, two}
 use Rattle.rules.specs.Trains.{Train}

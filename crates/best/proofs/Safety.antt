@@ -2,15 +2,14 @@
 use mathlib.Core.Bool.{Bool, true, false, not, _&&_, _||_}
 use mathlib.Core.Logic.{_↔_, _⊎_, inl, inr, ⊎-elim}
 use mathlib.Core.Path.{_≡_, refl, sym}
-use Prim.Native.Nat.{ℕ, _+_, _<_, _≤_}
+use Prim.Native.Nat.{_<_}
 use native.Mathlib.Omega.{arith}
-use lib.Dec.{T, leb, ltb, leb→le, le→leb, ltb→lt, lt→ltb}
-use Rattle.rules.specs.Line.{Station, one, two, gap, apart, same-station}
+use lib.Dec.{T, leb→le, le→leb, ltb→lt, lt→ltb}
+use Rattle.rules.specs.Line.{Station, one, two, apart, same-station}
 use Rattle.rules.specs.Trains.{Section, aim, Run}
 use Rattle.rules.specs.Safe.{in-order, keeps}
 use Rattle.rules.proofs.Line.{both}
-use Rattle.theory.specs.Line.{Lawful}
-use Rattle.theory.specs.Schedule.{Leaves, Apart}
+use Rattle.theory.specs.Schedule.{Apart}
 use Rattle.theory.proofs.Apart.{apart-turn}
 use Rattle.best.specs.Fair.{Fair}
 use Rattle.best.specs.Instance.{line}
@@ -28,7 +27,7 @@ same→ : (s s′ : Station) → T (same-station s s′) → s ≡ s′
 same→ one one t = refl
 same→ two two t = refl
 
-→same : (s s′ : Station) → s ≡ s′ → T (same-station s s′)
+pub →same : (s s′ : Station) → s ≡ s′ → T (same-station s s′)
 →same one s′ e = rw (← e) tt
 →same two s′ e = rw (← e) tt
 

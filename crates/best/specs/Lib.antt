@@ -1,3 +1,4 @@
 -- What is shown of the rules: that the plan is best, and what trainees ask.
+pub mod Demand
 pub mod Fair
 pub mod Instance

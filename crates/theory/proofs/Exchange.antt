@@ -29,8 +29,8 @@ paired-ascends [] a = Pairs.none
 paired-ascends (x ∷ q) Pairs.none = Pairs.none
 paired-ascends (x ∷ q) (Pairs.more a p) = Pairs.more (paired-all q a) (paired-ascends q p)
 
-module _ (L : Line) (O : Ordered (L .values)) (ahead : L .Train → L .Train → Bool) (S : Swappable L ahead) where
-  open Line L using (values, Train, Good, early, cost)
+module _ (L : Line) (O : Ordered (L .values)) (Fit : L .Train → Type 0) (ahead : L .Train → L .Train → Bool) (S : Swappable L Fit ahead) where
+  open Line L using (values, Train, early, cost)
   open Values values using (_≼_, _⊙_)
 
   infixl 6 _⊙_
@@ -41,7 +41,7 @@ module _ (L : Line) (O : Ordered (L .values)) (ahead : L .Train → L .Train →
     keep : {r : Run Train} {rs ss : List (Run Train)} → Exchanged rs ss → Exchanged (r ∷ rs) (r ∷ ss)
     then : {rs ss ts : List (Run Train)} → Exchanged rs ss → Exchanged ss ts → Exchanged rs ts
     trade :
-        {x y : Train} {s t : ℕ} {rs : List (Run Train)} → Good x → Good y → Before ahead x y → s ≤ t →
+        {x y : Train} {s t : ℕ} {rs : List (Run Train)} → Fit x → Fit y → Before ahead x y → s ≤ t →
         Exchanged (record { train = x; departure = t } ∷ record { train = y; departure = s } ∷ rs)
         (record { train = x; departure = s } ∷ record { train = y; departure = t } ∷ rs)
 
@@ -85,7 +85,7 @@ module _ (L : Line) (O : Ordered (L .values)) (ahead : L .Train → L .Train →
 
   enter :
       {y : Train} {q p : List Train} {e : ℕ} {ds es : List ℕ} → Enters (Before ahead) y q p → Enters (Before ltb) e ds es →
-      Pairs (Before ahead) q → Pairs (Before ltb) ds → Good y → All Good q → length q ≡ length ds →
+      Pairs (Before ahead) q → Pairs (Before ltb) ds → Fit y → All Fit q → length q ≡ length ds →
       Exchanged (record { train = y; departure = e } ∷ paired q ds) (paired p es)
   enter (first a) (first b) r s g gs l = listed (perm-same _)
   enter (first a) (later k n) Pairs.none s g gs l = absurd (omega arith)
@@ -99,7 +99,7 @@ module _ (L : Line) (O : Ordered (L .values)) (ahead : L .Train → L .Train →
 
   joined :
       (rs : List (Run Train)) {q : List Train} {ds : List ℕ} → Pairs (Before ahead) q → Pairs (Before ltb) ds →
-      All (λ r. Good (r .train)) rs → All Good q → length q ≡ length ds →
+      All (λ r. Fit (r .train)) rs → All Fit q → length q ≡ length ds →
       Exchanged (rs ++ paired q ds) (paired (join ahead q (trains rs)) (join ltb ds (departures rs)))
   joined [] r s gs hs l = listed (perm-same _)
   joined (t ∷ rs) {q} {ds} r s (All.more g gs) hs l =
@@ -111,24 +111,24 @@ module _ (L : Line) (O : Ordered (L .values)) (ahead : L .Train → L .Train →
       (then (exchanged-after rs (enter (put-enters ahead (S .ranked) (t .train) r) (put-enters ltb K (t .departure) s) r s g hs l))
       (joined rs (put-sorted ahead (S .ranked) (t .train) r) (put-sorted ltb K (t .departure) s) gs (all-perm p (All.more g hs)) m))
 
-  exchanged : {rs : List (Run Train)} → All (λ r. Good (r .train)) rs → Exchanged rs (requeued ahead rs)
+  exchanged : {rs : List (Run Train)} → All (λ r. Fit (r .train)) rs → Exchanged rs (requeued ahead rs)
   exchanged {rs} gs = rw append-nil at (joined rs Pairs.none Pairs.none gs All.none refl)
 
-  pub exchange : {rs : List (Run Train)} → All (λ r. Good (r .train)) rs → worth L (requeued ahead rs) ≼ worth L rs
+  pub exchange : {rs : List (Run Train)} → All (λ r. Fit (r .train)) rs → worth L (requeued ahead rs) ≼ worth L rs
   exchange gs = exchanged-worth (exchanged gs)
 
   pub exchange-ready :
-      {rs : List (Run Train)} → All (λ r. Good (r .train)) rs → All (λ r. early (r .train) ≤ r .departure) rs →
+      {rs : List (Run Train)} → All (λ r. Fit (r .train)) rs → All (λ r. early (r .train) ≤ r .departure) rs →
       All (λ r. early (r .train) ≤ r .departure) (requeued ahead rs)
   exchange-ready gs a = exchanged-ready (exchanged gs) a
 
   pub exchange-all :
       {Q : Run Train → Type 0} → ((r s : Run Train) → Q r → Q s → Q (record { train = r .train; departure = s .departure })) →
-      {rs : List (Run Train)} → All (λ r. Good (r .train)) rs → All Q rs → All Q (requeued ahead rs)
+      {rs : List (Run Train)} → All (λ r. Fit (r .train)) rs → All Q rs → All Q (requeued ahead rs)
   exchange-all over gs a = exchanged-all over (exchanged gs) a
 
   pub exchange-leaves :
-      Lawful L → {rs : List (Run Train)} → All (λ r. Good (r .train)) rs → Pairs (Mates L) rs → Pairs (Leaves L) (requeued ahead rs)
+      Lawful L → {rs : List (Run Train)} → All (λ r. Fit (r .train)) rs → Pairs (Mates L) rs → Pairs (Leaves L) (requeued ahead rs)
   exchange-leaves P {rs} gs m =
       pairs-together (λ r s n h. leaves-first L P h (n .apart)) (exchanged-mates (exchanged gs) m)
       (paired-ascends (queue ahead (trains rs)) (ascends (departures rs)))
