@@ -27,7 +27,7 @@ some-order : (n m : ℕ) → 0 < length (orders n m)
 some-order zero zero = omega arith
 some-order zero (suc m) = rw length-map (some-order zero m)
 some-order (suc n) zero = rw length-map (some-order n zero)
-some-order (suc n) (suc m) = rw (length-append, length-map) (omega (arith, some-order n (suc m)))
+some-order (suc n) (suc m) = simp (length-append, length-map) (omega (arith, some-order n (suc m)))
 
 module _ (S : Section) where
   -- an order stays first of all though another comes after it, or gives way to that one

@@ -4,12 +4,14 @@ pub mod Objectives
 pub mod Instance
 pub mod Orders
 pub mod Chosen
+pub mod FirstOrder
 pub mod Pairwise
 pub mod Numbers
-pub mod Reindex
 pub mod Accepted
 pub mod Safety
+pub mod Reindex
 pub mod Stations
+pub mod Settled
 pub mod Days
-pub mod FirstOrder
+pub mod BestOrder
 pub mod Demand

@@ -92,3 +92,6 @@ module _ (S : Section) where
   pub runs-count : (departures : List ℕ) → length (runs S departures) ≡ count S
   unfolding runs
   runs-count departures = length-map (trains S) _ ∙ trains-count
+
+  pub runs-rising : (departures : List ℕ) → Pairs (λ r s. r .train .number < s .train .number) (runs S departures)
+  runs-rising departures = pairs-unmapped (λ r. r .train) (runs S departures) (rw (runs-trains departures) rising)

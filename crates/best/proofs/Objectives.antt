@@ -11,6 +11,7 @@ use lib.Signed.{_≤ℤ_, leZ, leZ-yes, ≤ℤ-refl}
 use Rattle.rules.specs.Lists.{those, every, neighbours}
 use Rattle.rules.specs.Figures.{figure, within, Step, used, good-row, last-cost, row-cost}
 use Rattle.rules.specs.Objectives.{Objective, larger, lateness, weighted, by-rows, objective}
+use Rattle.rules.specs.Trains.{Section, aim}
 use Rattle.rules.proofs.Line.{both}
 use Rattle.theory.specs.Integers.{at, sum, largest}
 use Rattle.theory.proofs.Choices.{cond-ind}
@@ -116,10 +117,14 @@ either : (t : Bool) {O O′ : Objective} → Fair O → Fair O′ → Fair (cond
 either true f g = f
 either false f g = g
 
-pub fair : (n : ℕ) → Fair (objective n)
+fair : (n : ℕ) → Fair (objective n)
 unfolding objective by-rows
 fair n =
     either (eqb n 1) fair-lateness
     (either (eqb n 2) fair-weighted
     (either (eqb n 3) (by-sum (by-rows _+ℤ_) row-rises refl (inl (rows-listed _+ℤ_)))
     (by-largest (by-rows larger) row-rises refl (inl (rows-listed larger)))))
+
+pub fair-aim : (S : Section) → Fair (aim S)
+unfolding aim
+fair-aim S = fair (S .objective)

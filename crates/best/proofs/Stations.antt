@@ -12,15 +12,15 @@ use Rattle.rules.specs.Trains.{Section, aim, Train, trains-at, Run}
 use Rattle.rules.specs.Value.{cost-of}
 use Rattle.rules.specs.Orders.{station-order}
 use Rattle.theory.specs.Line.{Lawful}
-use Rattle.theory.specs.Schedule.{trains, All, Pairs, worth, Leaves, Apart}
+use Rattle.theory.specs.Schedule.{trains, departures, All, Pairs, worth, Leaves, Apart}
 use Rattle.theory.specs.Queue.{queue, requeued, Before, Swappable}
 use Rattle.theory.specs.Permutations.{Perm}
 use Rattle.theory.proofs.Values.{same}
 use Rattle.theory.proofs.Facts.{each, together, pairs-each, pairs-together, pairs-any, pairs-of, all-unmapped, pairs-unmapped}
-use Rattle.theory.proofs.Permutations.{all-perm}
+use Rattle.theory.proofs.Permutations.{perm-same, all-perm}
 use Rattle.theory.proofs.Apart.{leaves-first, Alike, apart-alike, Mates}
 use Rattle.theory.proofs.Queue.{queue-perm, queue-kept}
-use Rattle.theory.proofs.Exchange.{exchange, exchange-all, exchange-leaves, requeued-trains}
+use Rattle.theory.proofs.Exchange.{exchange, exchange-all, exchange-leaves, requeued-trains, requeued-departures}
 use Rattle.best.specs.Fair.{Fair, Listed, Trades}
 use Rattle.best.specs.Instance.{line, ahead-in}
 use Rattle.best.proofs.Orders.{queue-same}
@@ -80,6 +80,7 @@ module _ (S : Section) (F : Fair (aim S)) (P : Lawful (line S F)) where
     pub queued : trains runs ≡ station-order S s
     pub leaving : Pairs (Leaves (line S F)) runs
     pub cheaper : F .values ._≼_ (worth (line S F) runs) (worth (line S F) rs)
+    pub seconds : Perm (departures rs) (departures runs)
     pub clear : (r : Run) → All (Apart (line S F) r) rs → All (Apart (line S F) r) runs
 
   module _ (s : Station) (rs : List Run) (here : trains rs ≡ trains-at S s) (fine : Pairs (Fine S F) rs) where
@@ -96,6 +97,7 @@ module _ (S : Section) (F : Fair (aim S)) (P : Lawful (line S F)) where
           queued = here ∙ sym (order-listed S s listed);
           leaving = pairs-together (λ r r′ f h. leaves-first (line S F) P (h f) (f .apart)) fine in-turn;
           cheaper = same (F .values) (F .ordered) (worth (line S F) rs);
+          seconds = perm-same (departures rs);
           clear = λ r a. a;
         }
       where
@@ -111,6 +113,7 @@ module _ (S : Section) (F : Fair (aim S)) (P : Lawful (line S F)) where
           queued = requeued-trains (ahead-in S) rs ∙ ap (queue (ahead-in S)) here ∙ sym (order-queue S s);
           leaving = exchange-leaves (line S F) (F .ordered) (Fit s) (ahead-in S) (swappable s trades) P fit mates;
           cheaper = exchange (line S F) (F .ordered) (Fit s) (ahead-in S) (swappable s trades) fit;
+          seconds = requeued-departures (ahead-in S) rs;
           clear = λ r a. each (λ z c. c .1) (exchange-all (line S F) (F .ordered) (Fit s) (ahead-in S) (swappable s trades) (over r) fit (together (λ z e c. (e, c)) at-station a));
         }
       where

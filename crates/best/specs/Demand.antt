@@ -3,7 +3,6 @@
 use mathlib.Core.List.{List, _∷_}
 use mathlib.Core.Path.{_≡_}
 use Prim.Native.Nat.{ℕ}
-use lib.IntN.{ℤ}
 use lib.Signed.{_≤ℤ_, _<ℤ_}
 use Rattle.rules.specs.Line.{one, two}
 use Rattle.rules.specs.Trains.{Section, count-at}

@@ -55,9 +55,12 @@ abbrev pub departure-of : ℕ → List Run → ℕ
 departure-of number [] = 0
 departure-of number (r ∷ rs) = cond (eqb number (r .train .number)) (r .departure) (departure-of number rs)
 
--- a string's departures, in train number order
+-- the departures of a schedule, in train number order
+unfoldable pub by-number : Section → List Run → List ℕ
+by-number S rs = map (λ x. departure-of (x .number) rs) (trains S)
+
 unfoldable pub departures-of : Section → Order → List ℕ
-departures-of S o = map (λ x. departure-of (x .number) (schedule S o)) (trains S)
+departures-of S o = by-number S (schedule S o)
 
 unfoldable pub value-of : Section → Order → ℤ
 value-of S o = value S (departures-of S o)

@@ -12,7 +12,7 @@ use Rattle.theory.specs.Values.{Values, Ordered}
 use Rattle.theory.specs.Line.{Line, Lawful}
 use Rattle.theory.specs.Schedule.{Run, trains, departures, All, Pairs, worth, Leaves}
 use Rattle.theory.specs.Permutations.{Perm, turn}
-use Rattle.theory.specs.Queue.{put, join, queue, Before, paired, requeued, Swappable}
+use Rattle.theory.specs.Queue.{put, join, queue, Before, ascending, paired, requeued, Swappable}
 use Rattle.theory.proofs.Values.{at-most, mono-left}
 use Rattle.theory.proofs.Facts.{together, pairs-together}
 use Rattle.theory.proofs.Apart.{Mates, mates-turn, mates-over, mates-trade, leaves-first}
@@ -134,12 +134,20 @@ module _ (L : Line) (O : Ordered (L .values)) (Fit : L .Train → Type 0) (ahead
       (paired-ascends (queue ahead (trains rs)) (ascends (departures rs)))
 
 -- a queue's trains and as many departures lose nothing by being paired
-paired-trains : {X : Type 0} (q : List X) (ds : List ℕ) → length q ≡ length ds → trains (paired q ds) ≡ q
-paired-trains [] ds l = refl
-paired-trains (x ∷ q) [] l = absurd (omega arith)
-paired-trains (x ∷ q) (d ∷ ds) l = ap (λ p. x ∷ p) (paired-trains q ds (omega arith))
+paired-parts : {X : Type 0} (q : List X) (ds : List ℕ) → length q ≡ length ds → (trains (paired q ds) ≡ q) × (departures (paired q ds) ≡ ds)
+paired-parts [] [] l = (refl, refl)
+paired-parts [] (d ∷ ds) l = absurd (omega arith)
+paired-parts (x ∷ q) [] l = absurd (omega arith)
+paired-parts (x ∷ q) (d ∷ ds) l = let (a, b) = paired-parts q ds (omega arith) in (ap (λ p. x ∷ p) a, ap (λ p. d ∷ p) b)
 
-pub requeued-trains : {X : Type 0} (ahead : X → X → Bool) (rs : List (Run X)) → trains (requeued ahead rs) ≡ queue ahead (trains rs)
-requeued-trains ahead rs =
-    paired-trains _ _
-    (sym (perm-length (queue-perm ahead (trains rs))) ∙ (simp length-map) ∙ perm-length (queue-perm ltb (departures rs)))
+module _ {X : Type 0} (ahead : X → X → Bool) (rs : List (Run X)) where
+  requeued-parts : (trains (requeued ahead rs) ≡ queue ahead (trains rs)) × (departures (requeued ahead rs) ≡ ascending (departures rs))
+  requeued-parts =
+      paired-parts _ _
+      (sym (perm-length (queue-perm ahead (trains rs))) ∙ (simp length-map) ∙ perm-length (queue-perm ltb (departures rs)))
+
+  pub requeued-trains : trains (requeued ahead rs) ≡ queue ahead (trains rs)
+  requeued-trains = requeued-parts .0
+
+  pub requeued-departures : Perm (departures rs) (departures (requeued ahead rs))
+  requeued-departures = rw (requeued-parts .1) (queue-perm ltb (departures rs))

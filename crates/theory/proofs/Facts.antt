@@ -76,6 +76,10 @@ pub pairs-unmapped : {X Y : Type 0} {R : Y → Y → Type 0} (f : X → Y) (xs :
 pairs-unmapped f [] ps = Pairs.none
 pairs-unmapped f (x ∷ xs) (Pairs.more a ps) = Pairs.more (all-unmapped f xs a) (pairs-unmapped f xs ps)
 
+pub pairs-mapped : {X Y : Type 0} {R : Y → Y → Type 0} (f : X → Y) {xs : List X} → Pairs (λ x y. R (f x) (f y)) xs → Pairs R (map f xs)
+pairs-mapped f Pairs.none = Pairs.none
+pairs-mapped f (Pairs.more a ps) = Pairs.more (all-mapped f a) (pairs-mapped f ps)
+
 -- a fact of each element of one list with each of another, from the other list's side
 pub across : {X Y : Type 0} {P : X → Y → Type 0} {Q : Y → X → Type 0} → ((x : X) (y : Y) → P x y → Q y x)
     → {xs : List X} (ys : List Y) → All (λ x. All (P x) ys) xs → All (λ y. All (Q y) xs) ys
