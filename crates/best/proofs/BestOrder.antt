@@ -8,12 +8,11 @@ use Rattle.rules.specs.Trains.{Section, aim, count-at, count, Train, Run}
 use Rattle.rules.specs.Orders.{Order, orders, leaving, station-order, schedule, by-number, departures-of, value-of, best-order, best-value}
 use Rattle.theory.specs.Line.{Lawful}
 use Rattle.theory.specs.Schedule.{All, leave, worth}
-use Rattle.theory.specs.Orders.{days, Woven, first-best, best, walk}
+use Rattle.theory.specs.Orders.{days, Woven, first-best, best, best-day}
 use Rattle.theory.proofs.Facts.{at, each, all-unmapped}
 use Rattle.theory.proofs.Permutations.{perm-length}
 use Rattle.theory.proofs.Woven.{woven-days}
-use Rattle.theory.proofs.Best.{walk-listed}
-use Rattle.theory.proofs.FirstBest.{walk-best, walk-first}
+use Rattle.theory.proofs.FirstBest.{day-listed, day-best, day-first}
 use Rattle.best.specs.Fair.{Fair}
 use Rattle.best.specs.Instance.{line}
 use Rattle.best.proofs.Instance.{sent-leaves}
@@ -50,20 +49,20 @@ module _ (S : Section) (F : Fair (aim S)) (P : Lawful (line S F)) (filled : 0 < 
   unfolding value-of
   order-value o w = rw (order-departures o) (day-value S F P _ (woven-same S w) filled)
 
-  pub best-day : leaving (best-order S) (Q one) (Q two)
-      ≡ walk (line S F) (best (line S F) (λ x. 0) (Q one) (Q two)) (F .values .none) (λ x. 0) (Q one) (Q two)
+  pub order-day : leaving (best-order S) (Q one) (Q two)
+      ≡ best-day (line S F) (Q one) (Q two)
   unfolding best-order
-  best-day =
+  order-day =
       chosen-same F (value-of S) (λ o. leaving o (Q one) (Q two)) (λ d. worth (line S F) (sent-day d)) _ refl (each order-value order-woven)
       ∙ ap (first-best (F .values) _) section-days
-      ∙ sym (walk-first (line S F) P (Q one) (Q two))
+      ∙ sym (day-first (line S F) P (Q one) (Q two))
 
   pub best-woven : Woven (Q one) (Q two) (leaving (best-order S) (Q one) (Q two))
-  best-woven = rw best-day (at (woven-days (Q one) (Q two)) (walk-listed (line S F) P _ _ (λ x. 0) (Q one) (Q two)))
+  best-woven = rw order-day (at (woven-days (Q one) (Q two)) (day-listed (line S F) P (Q one) (Q two)))
 
   pub best-graded : F .grade (best-value S) ≡ best (line S F) (λ x. 0) (Q one) (Q two)
   unfolding best-value
   best-graded =
       order-value (best-order S) best-woven
-      ∙ ap (λ d. worth (line S F) (sent-day d)) best-day
-      ∙ walk-best (line S F) P (Q one) (Q two)
+      ∙ ap (λ d. worth (line S F) (sent-day d)) order-day
+      ∙ day-best (line S F) P (Q one) (Q two)

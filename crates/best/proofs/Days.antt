@@ -1,5 +1,5 @@
 -- A day's order, sent without waiting: its departures by number are safe, and their value is its worth.
-use mathlib.Core.List.{List, map}
+use mathlib.Core.List.{List, _++_, map}
 use mathlib.Core.Logic.{⊎-elim}
 use mathlib.Core.Path.{_≡_, sym, _∙_}
 use Prim.Native.Nat.{_<_}
@@ -26,12 +26,13 @@ use Rattle.best.proofs.Safety.{→same, Fine}
 use Rattle.best.proofs.Stations.{order-perm, order-station, order-listed}
 
 module _ (S : Section) where
-  -- the section's trains are those of the two stations' orders, however they are woven
-  pub woven-same : {day : List Train} → Woven (station-order S one) (station-order S two) day → Perm (trains S) day
+  -- the section's trains are those of the two stations' orders, one after the other or woven
+  pub stations-same : Perm (trains S) (station-order S one ++ station-order S two)
   unfolding trains
-  woven-same w =
-      then (perm-before (order-perm S one) (trains-at S two))
-      (then (perm-after (station-order S one) (order-perm S two)) (woven-perm w))
+  stations-same = then (perm-before (order-perm S one) (trains-at S two)) (perm-after (station-order S one) (order-perm S two))
+
+  pub woven-same : {day : List Train} → Woven (station-order S one) (station-order S two) day → Perm (trains S) day
+  woven-same w = then stations-same (woven-perm w)
 
   -- where list order is kept, the first of two trains of one station has the smaller number
   abbrev pub Turn : Train → Train → Type 0

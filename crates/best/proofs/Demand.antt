@@ -18,9 +18,9 @@ use Rattle.best.specs.Fair.{Fair}
 use Rattle.best.specs.Instance.{line}
 use Rattle.best.specs.Demand.{Best}
 use Rattle.best.proofs.Objectives.{fair-aim}
-use Rattle.best.proofs.Instance.{lawful, graded}
+use Rattle.best.proofs.Instance.{lawful}
 use Rattle.best.proofs.FirstOrder.{best-first}
-use Rattle.best.proofs.Numbers.{runs-count}
+use Rattle.best.proofs.Reindex.{graded-value}
 use Rattle.best.proofs.Accepted.{Accepted, accepted}
 use Rattle.best.proofs.Days.{woven-same, day-turns, day-safe}
 use Rattle.best.proofs.BestOrder.{order-departures, best-woven, best-graded}
@@ -40,10 +40,7 @@ module _ (S : Section) (F : Fair (aim S)) (P : Lawful (line S F)) (A : Accepted 
         (settled-cheaper S F P (A .good) departures safe))
 
     no-better : best-value S ≤ℤ value S departures
-    unfolding value
-    no-better =
-        F .down _ _
-        (rw (best-graded S F P (A .filled), graded S F (runs S departures) (rw (runs-count S departures) (A .filled))) dominated)
+    no-better = F .down _ _ (rw (best-graded S F P (A .filled), graded-value S F (A .filled) departures) dominated)
 
   best-holds : Best S
   unfolding best-value value-of plan

@@ -15,3 +15,6 @@ pub mod Settled
 pub mod Days
 pub mod BestOrder
 pub mod Demand
+pub mod NoWaiting
+pub mod StationOrder
+pub mod Trainees

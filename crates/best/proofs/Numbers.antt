@@ -1,8 +1,8 @@
 -- Trains by number: a section's trains stand in the order of their numbers, from 0, with none left out.
 -- So departures written in that order are read back by number.
-use mathlib.Core.List.{List, [], _∷_, _++_, map, map-map, map-id, map-append, append-assoc}
+use mathlib.Core.List.{List, [], _∷_, _++_, map, map-map, map-id, map-append, append-assoc, head-eq-of-cons-eq, tail-eq-of-cons-eq}
 use mathlib.Core.Path.{_≡_, refl, _∙_, ap}
-use Prim.Native.Nat.{ℕ, zero, suc, _+_, _<_}
+use Prim.Native.Nat.{ℕ, zero, suc, _+_, _<_, _≤_, zero-le}
 use native.Mathlib.Nat.{zero-add, add-zero, suc-add, add-suc}
 use native.Mathlib.Numerals.{add-one}
 use native.Mathlib.Omega.{arith}
@@ -45,6 +45,14 @@ read-back f ps [] e = refl
 read-back f ps (x ∷ xs) e =
     let rest = read-back f (ps ++ (f x ∷ [])) xs (rw (length-append, add-one) (cc)) in
     rw (getD-at ps (f x) (map f xs) 0 (x .number) (cc), rw append-assoc at rest)
+
+-- trains numbered in a row from j: what bounds a number's second bounds what is written for it
+written-below : (f : Train → ℕ) (ds : List ℕ) (xs : List Train) (j : ℕ) → map (λ x. x .number) xs ≡ count-from j (length xs)
+    → All (λ x. f x ≤ getD ds (x .number) 0) xs → (k : ℕ) → getD (map f xs) k 0 ≤ getD ds (j + k) 0
+written-below f ds [] j e a k = zero-le
+written-below f ds (x ∷ xs) j e (All.more h a) zero = rw (add-zero, ← head-eq-of-cons-eq e) h
+written-below f ds (x ∷ xs) j e (All.more h a) (suc k) =
+    rw (add-suc, ← suc-add) (written-below f ds xs (suc j) (tail-eq-of-cons-eq e) a k)
 
 module _ (S : Section) where
   numbered-at : (s : Station) → map (λ x. x .number) (trains-at S s) ≡ count-from (first-number S s) (count-at S s)
@@ -95,3 +103,7 @@ module _ (S : Section) where
 
   pub runs-rising : (departures : List ℕ) → Pairs (λ r s. r .train .number < s .train .number) (runs S departures)
   runs-rising departures = pairs-unmapped (λ r. r .train) (runs S departures) (rw (runs-trains departures) rising)
+
+  pub by-place : (f : Train → ℕ) (departures : List ℕ) → All (λ x. f x ≤ getD departures (x .number) 0) (trains S)
+      → (k : ℕ) → getD (map f (trains S)) k 0 ≤ getD departures k 0
+  by-place f departures a k = rw zero-add at (written-below f departures (trains S) 0 (rw trains-count numbered) a k)

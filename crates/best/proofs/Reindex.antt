@@ -21,8 +21,13 @@ use Rattle.best.proofs.Pairwise.{pairs-safe}
 use Rattle.best.proofs.Numbers.{leaving-at, rising, runs-set, runs-trains, runs-count, runs-rising}
 use Rattle.best.proofs.Safety.{Fine, fine-turn, fine-keeps}
 
+pub graded-value : (S : Section) (F : Fair (aim S)) → 0 < count S → (departures : List ℕ)
+    → F .grade (value S departures) ≡ worth (line S F) (runs S departures)
+unfolding value
+graded-value S F filled departures = graded S F (runs S departures) (rw (runs-count S departures) filled)
+
 -- where no two trains have one number, a departure is found by its train's
-found : {rs : List Run} → Pairs (λ r r′. r′ .train .number ≢ r .train .number) rs
+pub found : {rs : List Run} → Pairs (λ r r′. r′ .train .number ≢ r .train .number) rs
     → All (λ r. departure-of (r .train .number) rs ≡ r .departure) rs
 found Pairs.none = All.none
 found (Pairs.more {x = r} a p) =
@@ -49,9 +54,7 @@ module _ (S : Section) (rs : List Run) (same : Perm (trains S) (map (λ r. r .tr
 
   module _ (F : Fair (aim S)) where
     pub same-value : 0 < count S → F .grade (value S (by-number S rs)) ≡ worth (line S F) rs
-    unfolding value
-    same-value filled =
-        graded S F (runs S (by-number S rs)) (rw (runs-count S (by-number S rs)) filled) ∙ worth-perm (line S F) (F .ordered) same-runs
+    same-value filled = graded-value S F filled (by-number S rs) ∙ worth-perm (line S F) (F .ordered) same-runs
 
     pub still-safe : Pairs (Fine S F) rs → Safe S (by-number S rs)
     still-safe fine =

@@ -22,10 +22,10 @@ module _ (t : Timing) (good : T (good-timing t)) where
   headway-bounds = omega (arith, simp (both, at-most) at good)
 
   pub gap-positive : (s s′ : Station) → 0 < gap t s s′
-  gap-positive one one = headway-bounds .0
+  gap-positive one one = omega (arith, headway-bounds)
   gap-positive one two = omega (arith, headway-bounds)
   gap-positive two one = omega (arith, headway-bounds)
-  gap-positive two two = headway-bounds .0
+  gap-positive two two = omega (arith, headway-bounds)
 
   pub gap-triangle : (s s′ s″ : Station) → gap t s s″ ≤ gap t s s′ + gap t s′ s″
   gap-triangle one one one = omega arith

@@ -1,4 +1,4 @@
--- The orders of a day against the best of the rest: none of them is worth less, and the walk's order is one of them.
+-- The orders of a day against the best of the rest: none of them is worth less.
 use mathlib.Core.Path.{_≡_, refl, ap}
 use mathlib.Core.Logic.{⊎-elim}
 use mathlib.Core.List.{
@@ -7,7 +7,6 @@ use mathlib.Core.List.{
   _∷_,
   map,
   List·Memᴰ,
-  List·Memᴰ·head,
   List·Memᴰ·append-cases,
   List·Memᴰ·eq-of-singleton,
   Memᴰ·append-left,
@@ -18,8 +17,7 @@ use mathlib.Core.List.{
 use Rattle.theory.specs.Values.{Values}
 use Rattle.theory.specs.Line.{Line, Lawful}
 use Rattle.theory.specs.Schedule.{Clock, after, leave, worth}
-use Rattle.theory.specs.Orders.{days, best, walk}
-use Rattle.theory.proofs.Choices.{pick-ind}
+use Rattle.theory.specs.Orders.{days, best}
 use Rattle.theory.proofs.Values.{at-most, least-left, least-right}
 
 -- the ways to go on once either queue's next train has left are ways of the day
@@ -32,7 +30,7 @@ module _ {X : Type 0} (x y : X) (xs ys : List X) {d : List X} where
 
 module _ (L : Line) (P : Lawful L) where
   open Line L using (values, Train, cost)
-  open Values values using (Val, _≼_, _⊙_, compare)
+  open Values values using (Val, _≼_, _⊙_)
   open Lawful P using (ordered)
 
   infixl 6 _⊙_
@@ -63,12 +61,3 @@ module _ (L : Line) (P : Lawful L) where
       (λ n. ordered .trans (least-left values ordered _ _) (through clock x _ (below (after L x (clock x)) xs (y ∷ ys)) d n))
       (λ n. ordered .trans (least-right values ordered _ _) (through clock y _ (below (after L y (clock y)) (x ∷ xs) ys) d n))
       (List·Memᴰ·append-cases (map (λ e. x ∷ e) (days xs (y ∷ ys))) m)
-
-  pub walk-listed : (goal sofar : Val) (clock : Clock L) (xs ys : List Train)
-      → List·Memᴰ (walk L goal sofar clock xs ys) (days xs ys)
-  walk-listed goal sofar clock [] ys = List·Memᴰ·head refl
-  walk-listed goal sofar clock (x ∷ xs) [] = List·Memᴰ·head refl
-  walk-listed goal sofar clock (x ∷ xs) (y ∷ ys) =
-      pick-ind (λ d. List·Memᴰ d (days (x ∷ xs) (y ∷ ys))) (compare _ goal)
-      (λ h. first-next x y xs ys (walk-listed goal (sofar ⊙ cost x (clock x)) (after L x (clock x)) xs (y ∷ ys)))
-      (λ n. second-next x y xs ys (walk-listed goal (sofar ⊙ cost y (clock y)) (after L y (clock y)) (x ∷ xs) ys))

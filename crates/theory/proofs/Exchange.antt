@@ -30,10 +30,9 @@ paired-ascends (x ∷ q) Pairs.none = Pairs.none
 paired-ascends (x ∷ q) (Pairs.more a p) = Pairs.more (paired-all q a) (paired-ascends q p)
 
 module _ (L : Line) (O : Ordered (L .values)) (Fit : L .Train → Type 0) (ahead : L .Train → L .Train → Bool) (S : Swappable L Fit ahead) where
-  open Line L using (values, Train, early, cost)
-  open Values values using (_≼_, _⊙_)
+  open Line L using (values, Train, early)
+  open Values values using (_≼_)
 
-  infixl 6 _⊙_
   infix 5 _≼_
   -- what a schedule can become by trades and by being listed otherwise
   data Exchanged : List (Run Train) → List (Run Train) → Type 0 where

@@ -18,7 +18,7 @@ use mathlib.Core.List.{
 use Rattle.theory.specs.Values.{Values}
 use Rattle.theory.specs.Line.{Line, Lawful}
 use Rattle.theory.specs.Schedule.{Clock, after, leave, worth}
-use Rattle.theory.specs.Orders.{days, least, leftmost, first-best, best, walk}
+use Rattle.theory.specs.Orders.{days, least, leftmost, first-best, best, walk, best-day}
 use Rattle.theory.proofs.Choices.{pick-yes, pick-no, pick-ind}
 use Rattle.theory.proofs.Values.{at-most, least-left}
 use Rattle.theory.proofs.Best.{alone-first, alone-second, through, below}
@@ -35,6 +35,10 @@ module _ (W : Values) {X : Type 0} {f : X → W .Val} {goal : W .Val} where
   attained : {x : X} {xs : List X} → First W f goal x xs → f x ≡ goal
   attained (here e h) = e
   attained (later n t) = attained t
+
+  listed : {x : X} {xs : List X} → First W f goal x xs → List·Memᴰ x xs
+  listed (here e h) = List·Memᴰ·head refl
+  listed (later n t) = List·Memᴰ·tail (listed t)
 
   found-left : {x : X} {xs ys : List X}
       → First W f goal x xs → ((z : X) → List·Memᴰ z ys → goal ≼ f z) → First W f goal x (xs ++ ys)
@@ -127,15 +131,15 @@ module _ (L : Line) (P : Lawful L) where
       (first-found sofar clock x y xs ys (walk-finds goal (sofar ⊙ cost x (clock x)) (after L x (clock x)) xs (y ∷ ys)))
       (second-found sofar clock x y xs ys (walk-finds goal (sofar ⊙ cost y (clock y)) (after L y (clock y)) (x ∷ xs) ys)) e
 
-  pub walk-attains : (goal sofar : Val) (clock : Clock L) (xs ys : List Train)
-      → sofar ⊙ best L clock xs ys ≡ goal → sofar ⊙ worth L (leave L clock (walk L goal sofar clock xs ys)) ≡ goal
-  walk-attains goal sofar clock xs ys e = attained values (walk-finds goal sofar clock xs ys e)
+  from-start : (xs ys : List Train)
+      → First values (λ d. worth L (leave L early d)) (best L early xs ys) (best-day L xs ys) (days xs ys)
+  from-start xs ys = simp (ordered .none-left) at (walk-finds (best L early xs ys) none early xs ys (ordered .none-left _))
 
-  pub walk-best : (xs ys : List Train)
-      → worth L (leave L early (walk L (best L early xs ys) none early xs ys)) ≡ best L early xs ys
-  walk-best xs ys = sym (ordered .none-left _) ∙ walk-attains (best L early xs ys) none early xs ys (ordered .none-left _)
+  pub day-listed : (xs ys : List Train) → List·Memᴰ (best-day L xs ys) (days xs ys)
+  day-listed xs ys = listed values (from-start xs ys)
 
-  pub walk-first : (xs ys : List Train)
-      → walk L (best L early xs ys) none early xs ys ≡ first-best values (λ d. worth L (leave L early d)) (days xs ys)
-  walk-first xs ys =
-      sym (found-best values (simp (ordered .none-left) at (walk-finds (best L early xs ys) none early xs ys (ordered .none-left _))))
+  pub day-best : (xs ys : List Train) → worth L (leave L early (best-day L xs ys)) ≡ best L early xs ys
+  day-best xs ys = attained values (from-start xs ys)
+
+  pub day-first : (xs ys : List Train) → best-day L xs ys ≡ first-best values (λ d. worth L (leave L early d)) (days xs ys)
+  day-first xs ys = sym (found-best values (from-start xs ys))

@@ -36,16 +36,3 @@ module _ (W : Values) (O : Ordered W) where
 
   pub least-right : (a b : Val) → least W a b ≼ b
   least-right a b = pick-ind (λ z. z ≼ b) (compare a b) (λ h. h) (λ n. same b)
-
-  -- joining the same value to both changes nothing of which is the smaller
-  pub least-join : (c a b : Val) → c ⊙ least W a b ≡ least W (c ⊙ a) (c ⊙ b)
-  least-join c a b =
-      pick-ind (λ z. c ⊙ z ≡ least W (c ⊙ a) (c ⊙ b)) (compare a b)
-      (λ h. O .antisym (low (O .mono c h)) (least-left (c ⊙ a) (c ⊙ b)))
-      (λ n. O .antisym (lower (O .mono c (or-else n))) (least-right (c ⊙ a) (c ⊙ b)))
-    where
-      low : c ⊙ a ≼ c ⊙ b → c ⊙ a ≼ least W (c ⊙ a) (c ⊙ b)
-      low h = pick-ind (λ z. c ⊙ a ≼ z) (compare (c ⊙ a) (c ⊙ b)) (λ k. same (c ⊙ a)) (λ k. h)
-
-      lower : c ⊙ b ≼ c ⊙ a → c ⊙ b ≼ least W (c ⊙ a) (c ⊙ b)
-      lower h = pick-ind (λ z. c ⊙ b ≼ z) (compare (c ⊙ a) (c ⊙ b)) (λ k. h) (λ k. same (c ⊙ b))

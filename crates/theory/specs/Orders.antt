@@ -37,7 +37,7 @@ module _ (W : Values) where
   first-best f (d ∷ ds) = leftmost f d ds
 
 module _ (L : Line) where
-  open Line L using (values, Train, cost)
+  open Line L using (values, Train, early, cost)
   open Values values using (Val, _⊙_, compare, none as nothing)
 
   -- the best of the rest from a clock: the smaller of what comes of sending either queue's next train
@@ -57,3 +57,7 @@ module _ (L : Line) where
       pick (compare (sofar ⊙ (cost x (clock x) ⊙ best (after L x (clock x)) xs (y ∷ ys))) goal)
       (x ∷ walk goal (sofar ⊙ cost x (clock x)) (after L x (clock x)) xs (y ∷ ys))
       (y ∷ walk goal (sofar ⊙ cost y (clock y)) (after L y (clock y)) (x ∷ xs) ys)
+
+  -- from the start, with the best of all for the goal
+  abbrev pub best-day : List Train → List Train → List Train
+  best-day xs ys = walk (best early xs ys) nothing early xs ys
