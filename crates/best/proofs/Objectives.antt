@@ -10,7 +10,7 @@ use lib.IntN.{ℤ, pos, _+ℤ_}
 use lib.Signed.{_≤ℤ_, leZ, leZ-yes, ≤ℤ-refl}
 use Rattle.rules.specs.Lists.{those, every, neighbours}
 use Rattle.rules.specs.Figures.{figure, within, Step, used, good-row, last-cost, row-cost}
-use Rattle.rules.specs.Objectives.{Objective, larger, lateness, weighted, by-rows, objective}
+use Rattle.rules.specs.Objectives.{Objective, larger, lateness, weighted, by-rows, aim-of}
 use Rattle.rules.specs.Trains.{Section, aim}
 use Rattle.rules.proofs.Line.{both}
 use Rattle.theory.specs.Integers.{at, sum, largest}
@@ -117,8 +117,8 @@ either : (t : Bool) {O O′ : Objective} → Fair O → Fair O′ → Fair (cond
 either true f g = f
 either false f g = g
 
-fair : (n : ℕ) → Fair (objective n)
-unfolding objective by-rows
+fair : (n : ℕ) → Fair (aim-of n)
+unfolding aim-of by-rows
 fair n =
     either (eqb n 1) fair-lateness
     (either (eqb n 2) fair-weighted

@@ -6,7 +6,7 @@ use native.Mathlib.Omega.{arith}
 use lib.IntN.{pos}
 use Rattle.rules.specs.Line.{good-running, good-headway, good-timing, running, arrival}
 use Rattle.rules.specs.Figures.{figure, within}
-use Rattle.rules.specs.Objectives.{weighted, objective}
+use Rattle.rules.specs.Objectives.{weighted, aim-of}
 use Rattle.rules.specs.Trains.{Section, aim, count-at, count, train-at, trains-at, trains, runs}
 use Rattle.rules.specs.Safe.{Safe}
 use Rattle.rules.specs.Value.{cost-of, value}
@@ -33,7 +33,7 @@ module _ (S : Section) (places : ℕ) (accepts : refusals S places ≡ []) (depa
 
 -- case D, where the pair of station 1 goes first for 132 and station 2's heavy train for 92
 pub longer-first-is-not-best : ¬ ((S : Section) (places : ℕ) → refusals S places ≡ [] → value-of S (longer-first S) ≡ best-value S)
-unfolding good-running good-headway good-timing running arrival figure within weighted objective
+unfolding good-running good-headway good-timing running arrival figure within weighted aim-of
     aim count-at count train-at trains-at trains runs cost-of value
     station-order schedule by-number departures-of value-of best-order best-value
     refuse naming known ragged crowded refusals longer-first

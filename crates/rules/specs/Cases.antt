@@ -9,7 +9,7 @@ use lib.ListN.{length, take, replicate}
 use Rattle.rules.specs.Lists.{count-from}
 use Rattle.rules.specs.Line.{good-running, good-headway, good-timing, running, arrival, apart}
 use Rattle.rules.specs.Figures.{figure, within, is-zero, steps, used, unused, good-row, row-cost}
-use Rattle.rules.specs.Objectives.{larger, lateness, weighted, by-rows, objective}
+use Rattle.rules.specs.Objectives.{larger, lateness, weighted, by-rows, aim-of}
 use Rattle.rules.specs.Trains.{Section, aim, count-at, count, train-at, trains-at, trains, runs}
 use Rattle.rules.specs.Safe.{in-order, keeps, conflicts}
 use Rattle.rules.specs.Value.{cost-of, value}
@@ -143,7 +143,7 @@ full-stations =
 
 pub worked-by-hand : Hold cases × Hold more × Hold full-stations
 unfolding good-running good-headway good-timing running arrival apart
-    figure within is-zero steps used unused good-row row-cost larger lateness weighted by-rows objective
+    figure within is-zero steps used unused good-row row-cost larger lateness weighted by-rows aim-of
     aim count-at count train-at trains-at trains runs in-order keeps conflicts cost-of value
     station-order schedule by-number departures-of value-of best-order best-value plan
     refuse naming known ragged crowded refusals judge-refusals planner-answers planner-leaves judge-answers

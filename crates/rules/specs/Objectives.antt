@@ -63,5 +63,5 @@ by-rows join = record {
 }
 
 -- only 1 to 4 are asked for: any other number is refused before
-unfoldable pub objective : ℕ → Objective
-objective n = cond (eqb n 1) lateness (cond (eqb n 2) weighted (cond (eqb n 3) (by-rows _+ℤ_) (by-rows larger)))
+unfoldable pub aim-of : ℕ → Objective
+aim-of n = cond (eqb n 1) lateness (cond (eqb n 2) weighted (cond (eqb n 3) (by-rows _+ℤ_) (by-rows larger)))

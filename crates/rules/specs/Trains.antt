@@ -7,7 +7,7 @@ use lib.ListN.{length, getD, take, drop}
 use Rattle.rules.specs.declared.Timing.{Timing}
 use Rattle.rules.specs.Lists.{count-from}
 use Rattle.rules.specs.Line.{Station, one, two}
-use Rattle.rules.specs.Objectives.{Objective, objective}
+use Rattle.rules.specs.Objectives.{Objective, aim-of}
 
 -- what a caller asks about: the objective's number, the timing, station 1's list and station 2's
 pub record Section : Type 0 where
@@ -17,7 +17,7 @@ pub record Section : Type 0 where
   pub two : List ℤ
 
 unfoldable pub aim : Section → Objective
-aim S = objective (S .objective)
+aim S = aim-of (S .objective)
 
 abbrev pub list-at : Section → Station → List ℤ
 list-at S one = S .one
