@@ -1,16 +1,18 @@
--- What is known of a section that the planner does not refuse: its timing and its trains are good, and it has a train.
-use mathlib.Core.Bool.{Bool, true, false, not, _&&_, _||_, true≢false}
+-- What is known of a section that the planner does not refuse: its timing and its trains are good, and there is one, and not too many.
+use mathlib.Core.Bool.{Bool, true, false, _&&_, _||_, true≢false}
 use mathlib.Core.List.{List, [], _∷_, _++_, cons≢nil}
 use mathlib.Core.Logic.{_↔_, _≢_}
 use mathlib.Core.Path.{_≡_, refl, sym, _∙_}
-use Prim.Native.Nat.{ℕ, _+_, _%_, _<_}
+use Prim.Native.Nat.{ℕ, _+_, _%_, _<_, _≤_}
 use native.Mathlib.Nat.{div-add-mod', zero-mul}
 use native.Mathlib.Omega.{arith}
+use borrow.Author.Tests.{ltb-false}
 use lib.Dec.{T, eqb, eqb→eq}
 use lib.ListN.{length}
 use Rattle.rules.specs.Line.{Station, one, two, good-timing}
 use Rattle.rules.specs.Trains.{Section, aim, list-at, count-at, count, Train, trains}
-use Rattle.rules.specs.Refusals.{refuse, naming, ragged, refusals}
+use Rattle.rules.specs.Refusals.{refuse, naming, ragged, crowded, refusals}
+use Rattle.rules.proofs.Tests.{passes, neither}
 use Rattle.theory.specs.Schedule.{All}
 use Rattle.best.proofs.Pairwise.{none-fails}
 
@@ -18,6 +20,7 @@ pub record Accepted (S : Section) : Type 0 where
   pub timed : T (good-timing (S .timing))
   pub good : All (λ x. T (aim S .good (x .figures))) (trains S)
   pub filled : 0 < count S
+  pub few : (s : Station) → count-at S s ≤ aim S .most
 
 both-empty : {A : Type 0} (xs ys : List A) → (xs ++ ys ≡ []) ↔ ((xs ≡ []) × (ys ≡ []))
 both-empty [] ys = (λ e. (refl, e), λ h. h .1)
@@ -32,14 +35,6 @@ unnamed : (n : ℕ) (xs : List Train) → naming n xs ≡ [] → xs ≡ []
 unfolding naming
 unnamed n [] e = refl
 unnamed n (x ∷ xs) e = absurd (cons≢nil e)
-
-passes : (b : Bool) → not b ≡ false → T b
-passes true e = tt
-passes false e = absurd (true≢false e)
-
-neither : (a b : Bool) → a || b ≡ false → (a ≡ false) × (b ≡ false)
-neither true b e = absurd (true≢false e)
-neither false b e = (refl, e)
 
 module _ (S : Section) where
   -- a list that fills no train, and leaves no number over, is empty
@@ -57,6 +52,11 @@ module _ (S : Section) where
       let filled : count-at S one + count-at S two ≢ 0 = λ e. true≢false (rw (no-train one a (omega arith), no-train two b (omega arith)) at some) in
       omega arith
 
+  few-at : crowded S one || crowded S two ≡ false → (s : Station) → count-at S s ≤ aim S .most
+  unfolding crowded
+  few-at h one = ltb-false (aim S .most) (count-at S one) (neither (crowded S one) (crowded S two) h .0)
+  few-at h two = ltb-false (aim S .most) (count-at S two) (neither (crowded S one) (crowded S two) h .1)
+
   pub accepted : (places : ℕ) → refusals S places ≡ [] → Accepted S
   unfolding refusals
   accepted places none =
@@ -65,4 +65,11 @@ module _ (S : Section) where
         timed = passes (good-timing (S .timing)) (not-refused _ 2 r₂);
         good = none-fails (λ x. aim S .good (x .figures)) (trains S) .0 (unnamed 6 _ r₆);
         filled = has-train (not-refused _ 3 r₃) (not-refused _ 4 r₄);
+        few = few-at (not-refused _ 5 r₅);
       }
+
+  pub accepted-places : (places : ℕ) → refusals S places ≡ [] → places ≡ count S
+  unfolding refusals
+  accepted-places places none =
+      let (_, r₇) = simp both-empty at none in
+      eqb→eq places (count S) (passes (eqb places (count S)) (not-refused _ 7 r₇))

@@ -11,20 +11,13 @@ use lib.Seq.{getD-at}
 use Rattle.rules.specs.Lists.{count-from}
 use Rattle.rules.specs.Line.{Station, one, two}
 use Rattle.rules.specs.Trains.{Section, count-at, count, Train, first-number, train-at, trains-at, trains, Run, runs}
+use Rattle.rules.proofs.Trains.{count-on, count-past}
 use Rattle.theory.specs.Schedule.{All, Pairs}
 use Rattle.theory.proofs.Facts.{pairs-split, pairs-unmapped}
 
 length-count : (k n : ℕ) → length (count-from k n) ≡ n
 length-count k zero = refl
 length-count k (suc n) = ap suc (length-count (suc k) n)
-
-count-on : (k n m : ℕ) → count-from k n ++ count-from (k + n) m ≡ count-from k (n + m)
-count-on k zero m = rw (add-zero, zero-add)
-count-on k (suc n) m = rw (add-suc, suc-add, ← suc-add k, count-on (suc k) n m)
-
-count-past : (a k n : ℕ) → map (λ i. a + i) (count-from k n) ≡ count-from (a + k) n
-count-past a k zero = refl
-count-past a k (suc n) = rw (← add-suc, count-past a (suc k) n)
 
 all-past : (k j n : ℕ) → k < j → All (λ i. k < i) (count-from j n)
 all-past k j zero h = All.none

@@ -12,7 +12,7 @@ use Rattle.rules.specs.Lists.{those, every, neighbours}
 use Rattle.rules.specs.Figures.{figure, within, Step, used, good-row, last-cost, row-cost}
 use Rattle.rules.specs.Objectives.{Objective, larger, lateness, weighted, by-rows, aim-of}
 use Rattle.rules.specs.Trains.{Section, aim}
-use Rattle.rules.proofs.Line.{both}
+use Rattle.rules.proofs.Tests.{both}
 use Rattle.theory.specs.Integers.{at, sum, largest}
 use Rattle.theory.proofs.Choices.{cond-ind}
 use Rattle.theory.proofs.Integers.{≤ℤ-trans, sum-ordered, largest-ordered, raise, lower}

@@ -1,6 +1,5 @@
 -- The rules of a pair, whichever of the two trains is named first: so they can be followed from one listing of a schedule to another.
-use mathlib.Core.Bool.{Bool, true, false, not, _&&_, _||_}
-use mathlib.Core.Logic.{_↔_, _⊎_, inl, inr, ⊎-elim}
+use mathlib.Core.Logic.{_↔_, inl, inr, ⊎-elim}
 use mathlib.Core.Path.{_≡_, refl, sym}
 use Prim.Native.Nat.{_<_}
 use native.Mathlib.Omega.{arith}
@@ -8,20 +7,11 @@ use lib.Dec.{T, leb→le, le→leb, ltb→lt, lt→ltb}
 use Rattle.rules.specs.Line.{Station, one, two, apart, same-station}
 use Rattle.rules.specs.Trains.{Section, aim, Run}
 use Rattle.rules.specs.Safe.{in-order, keeps}
-use Rattle.rules.proofs.Line.{both}
+use Rattle.rules.proofs.Tests.{both, either, if-both}
 use Rattle.theory.specs.Schedule.{Apart}
 use Rattle.theory.proofs.Apart.{apart-turn}
 use Rattle.best.specs.Fair.{Fair}
 use Rattle.best.specs.Instance.{line}
-
-either : (a b : Bool) → T (a || b) ↔ (T a ⊎ T b)
-either true b = (λ h. inl tt, λ h. tt)
-either false b = (inr, ⊎-elim absurd (λ h. h))
-
-if-both : (a b c : Bool) → T (not (a && b) || c) ↔ (T a → T b → T c)
-if-both true true c = (λ h s t. h, λ f. f tt tt)
-if-both true false c = (λ h s t. absurd t, λ f. tt)
-if-both false b c = (λ h s t. absurd s, λ f. tt)
 
 same→ : (s s′ : Station) → T (same-station s s′) → s ≡ s′
 same→ one one t = refl

@@ -1,2 +1,4 @@
 -- Laws of the rules that what stands above them rests on.
+pub mod Tests
 pub mod Line
+pub mod Trains

@@ -1,17 +1,12 @@
 -- The laws of the line: a gap is at least a second, and a train in between makes no wait shorter.
 -- What is shown of schedules rests on these two, and on nothing else about who waits how long.
-use mathlib.Core.Bool.{Bool, true, false, _&&_}
 use mathlib.Core.Logic.{_↔_}
 use Prim.Native.Nat.{ℕ, _+_, _≤_, _<_}
 use native.Mathlib.Omega.{arith}
 use lib.Dec.{T, leb, leb→le, le→leb}
 use Rattle.rules.specs.declared.Timing.{Timing}
+use Rattle.rules.proofs.Tests.{both}
 use Rattle.rules.specs.Line.{Station, one, two, good-running, good-headway, good-timing, gap}
-
--- a test of two parts passes where both do
-pub both : (a b : Bool) → T (a && b) ↔ (T a × T b)
-both true b = (λ h. (tt, h), λ h. h .1)
-both false b = (absurd, λ h. h .0)
 
 at-most : (m n : ℕ) → T (leb m n) ↔ (m ≤ n)
 at-most m n = (leb→le m n, le→leb m n)

@@ -7,7 +7,7 @@ use lib.Dec.{leb, ltb, eqb}
 use lib.ListN.{length}
 use Rattle.rules.specs.Lists.{those}
 use Rattle.rules.specs.Line.{Station, one, two, good-timing}
-use Rattle.rules.specs.Trains.{Section, aim, list-at, count-at, count, Train, trains, runs}
+use Rattle.rules.specs.Trains.{Section, aim, list-at, count-at, count, Train, trains, Run, runs}
 use Rattle.rules.specs.Safe.{conflicts}
 
 abbrev pub Refusal : Type 0
@@ -20,6 +20,10 @@ refuse applies number = cond applies (record { number = number; first = 0; secon
 -- a refusal that names a train, for each of these
 unfoldable pub naming : ℕ → List Train → List Refusal
 naming number = map (λ x. record { number = number; first = x .number; second = 0 })
+
+-- a refusal that names two trains, for each of these pairs
+unfoldable pub naming-two : ℕ → List (Run × Run) → List Refusal
+naming-two number = map (λ pair. record { number = number; first = pair .0 .train .number; second = pair .1 .train .number })
 
 unfoldable pub known : ℕ → Bool
 known n = leb 1 n && leb n 4
@@ -46,5 +50,4 @@ unfoldable pub judge-refusals : Section → List ℕ → List Refusal
 judge-refusals S departures =
     refusals S (length departures) ++
     naming 8 (map (λ r. r .train) (those (λ r. ltb 10000000 (r .departure)) (runs S departures))) ++
-    map (λ pair. record { number = 9; first = pair .0 .train .number; second = pair .1 .train .number })
-    (conflicts S departures)
+    naming-two 9 (conflicts S departures)
