@@ -1,4 +1,6 @@
 -- Laws of the rules that what stands above them rests on.
 pub mod Tests
+pub mod Lists
 pub mod Line
 pub mod Trains
+pub mod Answers

@@ -4,10 +4,10 @@ use mathlib.Core.List.{List, [], _∷_, _++_, map}
 use Prim.Native.Nat.{ℕ, zero, suc}
 use lib.IntN.{ℤ, pos}
 use lib.ListN.{length, take, replicate}
-use Rattle.rules.specs.Trains.{Section}
+use Rattle.rules.specs.Trains.{Section, asked}
 
 abbrev pub section : ℕ → ℕ → ℕ → List ℤ → List ℤ → Section
-section n p β xs ys = record { objective = n; timing = record { running = p; headway = β }; one = xs; two = ys }
+section n p β = asked n (record { running = p; headway = β })
 
 abbrev pub on-line : ℕ → List ℤ → List ℤ → Section
 on-line n = section n 10 2

@@ -16,6 +16,10 @@ pub record Section : Type 0 where
   pub one : List ℤ
   pub two : List ℤ
 
+-- the section of a call
+abbrev pub asked : ℕ → Timing → List ℤ → List ℤ → Section
+asked n t xs ys = record { objective = n; timing = t; one = xs; two = ys }
+
 unfoldable pub aim : Section → Objective
 aim S = aim-of (S .objective)
 

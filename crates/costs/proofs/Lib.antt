@@ -1,0 +1,7 @@
+-- Laws that the proofs of the functions share.
+pub mod Table
+pub mod Counts
+pub mod Ranges
+pub mod Stretches
+pub mod Rows
+pub mod Bounds

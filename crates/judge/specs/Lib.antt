@@ -1,0 +1,3 @@
+-- What the judge's searches look for, in the rules' terms.
+pub mod Conflicts
+pub mod Runs

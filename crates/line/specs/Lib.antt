@@ -1,0 +1,2 @@
+-- Stations as the code tells them.
+pub mod Station

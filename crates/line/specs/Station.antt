@@ -1,0 +1,6 @@
+-- A station, by whether it is station 1.
+use mathlib.Core.Bool.{Bool, cond}
+use Rattle.rules.specs.Line.{Station, one, two}
+
+abbrev pub station : Bool → Station
+station is-one = cond is-one one two
