@@ -1,4 +1,5 @@
 -- Of two figures in a row, the second is above the first, or only not below it.
+-- Starts rise in the one way, costs in the other.
 use mathlib.Core.Bool.{Bool, true, false}
 use lib.IntN.{ℤ}
 use lib.Signed.{leZ, ltZ}

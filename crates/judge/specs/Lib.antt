@@ -1,3 +1,4 @@
--- What the judge's searches look for, in the rules' terms.
+-- What the judge's searches look for, and what its total asks, in the rules' terms.
+-- The promise of `judge` cites the rules alone.
 pub mod Conflicts
 pub mod Runs

@@ -1,4 +1,5 @@
--- Two schedules put together into one.
+-- Two schedules put together into one, by departure.
+-- The theorem that no schedule beats the best order puts the two queues together so.
 use native.Mathlib.Decide.{decLe}
 use mathlib.Core.List.{List, [], _∷_}
 use Rattle.theory.specs.Schedule.{Run}

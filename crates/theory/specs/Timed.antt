@@ -1,4 +1,5 @@
 -- A schedule listed in the order in which its trains leave.
+-- Any safe schedule can be listed so.
 use mathlib.Core.List.{List}
 use Rattle.theory.specs.Schedule.{Run}
 use Rattle.theory.specs.Queue.{queue, smaller}

@@ -1,4 +1,5 @@
 -- One schedule against another of the same order.
+-- That waiting never helps is said by this.
 use Prim.Native.Nat.{_≤_}
 use mathlib.Core.Path.{_≡_}
 use mathlib.Core.List.{List, [], _∷_}
