@@ -90,8 +90,9 @@ module _ (S : Section) (F : Fair (aim S)) (P : Lawful (line S F)) (A : Accepted 
   unfolding own-order
   prompt-no-dearer =
       F .down _ _
-      (rw (prompt-sent, day-value S F P _ same-trains (A .filled), graded-value S F (A .filled) departures, worth-perm (line S F) (F .ordered) (timed-perm (runs S departures)))
-      (waiting (line S F) P leaves (all-any (λ r. zero-le) as-they-leave) good))
+      (rw (prompt-sent, day-value S F P _ same-trains (A .filled), graded-value S F (A .filled) departures)
+      (rw (worth-perm (line S F) (F .ordered) (timed-perm (runs S departures)))
+      (waiting (line S F) P leaves (all-any (λ r. zero-le) as-they-leave) good)))
 
   pub never-helps : WaitingNeverHelps S departures
   unfolding arrival

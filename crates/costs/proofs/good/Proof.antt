@@ -15,7 +15,8 @@ within-requires c κs = search needs
 returns : tie.Need-returns
 unfolding lateness
 returns c =
-    rw (is-lateness _ (c .before .before .if1 .taken), ← c .before .figure .ensures) (simp (read-back (c .before .figure .result) (c .before .figure .ok)) at (c .within .ensures))
+    rw (is-lateness _ (c .before .before .if1 .taken), ← c .before .figure .ensures)
+    (simp (read-back (c .before .figure .result) (c .before .figure .ok)) at (c .within .ensures))
 
 figure-requires-2 : tie.Need-figure-requires-2
 figure-requires-2 c κs = search needs
@@ -26,7 +27,8 @@ within-requires-2 c κs = search needs
 returns-2 : tie.Need-returns-2
 unfolding weighted
 returns-2 c =
-    rw (is-weighted _ (c .before .before .if2 .taken), ← c .before .figure2 .ensures) (simp (read-back (c .before .figure2 .result) (c .before .figure2 .ok)) at (c .within2 .ensures))
+    rw (is-weighted _ (c .before .before .if2 .taken), ← c .before .figure2 .ensures)
+    (simp (read-back (c .before .figure2 .result) (c .before .figure2 .ok)) at (c .within2 .ensures))
 
 good-row-requires : tie.Need-good-row-requires
 good-row-requires c κs = search needs

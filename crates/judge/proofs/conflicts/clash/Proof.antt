@@ -13,12 +13,14 @@ same-requires c κs = search needs
 returns : tie.Need-returns
 unfolding breaks
 returns c =
-    rw (← c .before .before .before .before .apart .ensures, c .before .before .before .if1 .taken, c .before .before .if2 .taken, ← c .before .same .ensures, c .if3 .taken)
+    let keeps = c .before .before in
+    rw (← keeps .before .before .apart .ensures, keeps .before .if1 .taken, keeps .if2 .taken, ← c .before .same .ensures, c .if3 .taken)
 
 returns-2 : tie.Need-returns-2
 unfolding breaks
 returns-2 c =
-    rw (← c .before .before .before .before .apart .ensures, c .before .before .before .if1 .taken, c .before .before .if2 .taken, ← c .before .same .ensures, c .if3 .left)
+    let keeps = c .before .before in
+    rw (← keeps .before .before .apart .ensures, keeps .before .if1 .taken, keeps .if2 .taken, ← c .before .same .ensures, c .if3 .left)
 
 returns-3 : tie.Need-returns-3
 unfolding breaks

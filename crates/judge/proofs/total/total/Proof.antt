@@ -1,6 +1,6 @@
 -- The loop's invariant: what is joined so far and the costs that are left make the value, and what is joined so far is small.
 use borrow.Author.Needs.{needs, sfits-of}
-use mathlib.Core.Path.{_≡_, sym, _∙_}
+use mathlib.Core.Path.{_≡_, sym, _∙_, ap}
 use Prim.Native.Nat.{_-_, _*_, _≤_, _<_}
 use native.Mathlib.Omega.{arith}
 use mir.Facts.{toZ-ofZ}
@@ -36,8 +36,11 @@ cost-of-requires c κs = let s = c .before .before in s .pre .runs 0 (s .pre .fi
 loop-holds : tie.Need-loop-holds Inv-loop μ-loop
 loop-holds c =
     let s = c .before .before .before in
-    rw (toZ-ofZ (sfits-of (c .cost-of .ok)), c .cost-of .ensures)
-    (s .pre .filled, starts (asks s) (s .args .departures .now) (s .pre .filled), omega (arith, s .pre .small 0 (s .pre .filled)))
+    let cost = toZ-ofZ (sfits-of (c .cost-of .ok)) ∙ c .cost-of .ensures in (
+      omega (arith, s .pre .filled),
+      ap (λ z. from (asks s) (s .args .departures .now) z 1) cost ∙ starts (asks s) (s .args .departures .now) (s .pre .filled),
+      rw cost (omega (arith, s .pre .small 0 (s .pre .filled))),
+    )
 
 mul-cost-of : tie.Need-mul-cost-of Inv-loop μ-loop
 mul-cost-of c = search needs
