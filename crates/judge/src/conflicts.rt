@@ -64,7 +64,7 @@ pub struct Pair {
     pub second: usize,
 }
 
-// The first train in conflict with a later one, and the first of those; or the number of trains, twice.
+// The first train in conflict with a later one, and the first of those; or the number of trains, and one more.
 pub fn first_conflict(listed: bool, timing: Timing, n: usize, departures: &[u32]) -> Pair
     ensures { λ r. ⌜ Found listed timing n (now (departures .entry)) (r .first) (r .second) ⌝ }
 {

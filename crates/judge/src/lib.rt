@@ -5,7 +5,6 @@ use rules::Outcome;
 use rules::Timing;
 ghost use mathlib.Core.List.{[]};
 ghost use mathlib.Core.Path.{_≡_};
-ghost use Prim.Native.Nat.{_<_, _^_};
 ghost use lib.ListN.{length};
 ghost use Rattle.rules.specs.Refusals.{refusals};
 ghost use Rattle.rules.specs.Answers.{says, judge-answers};
@@ -14,20 +13,6 @@ ghost use Rattle.rules.specs.Trains.{asked};
 mod conflicts;
 mod total;
 
-// A refusal that names one train or two.
-fn refused(number: u32, first: usize, second: usize) -> Answer
-    requires { ⌜ (first < 2 ^ 32) × (second < 2 ^ 32) ⌝ }
-    ensures { λ r. ⌜ r .outcome ≡ Outcome.Refused number first second ⌝ }
-{
-    Answer {
-        outcome: Outcome::Refused {
-            number,
-            first: first as u32,
-            second: second as u32,
-        },
-    }
-}
-
 // The judge's answer on a call of which nothing is refused so far: refusals 8 and 9, or the value.
 fn judged(objective: u32, timing: Timing, one: &[i32], two: &[i32], departures: &[u32]) -> Answer
     requires { ⌜ refusals (asked objective timing (now one) (now two)) (length (now departures)) ≡ [] ⌝ }
@@ -35,12 +20,12 @@ fn judged(objective: u32, timing: Timing, one: &[i32], two: &[i32], departures: 
 {
     let late = conflicts::first_late(departures);
     if late < departures.len() {
-        return refused(8, late, 0);
+        return refusals::refused(8, late as u32, 0);
     }
     let n = one.len() / costs::numbers(objective);
     let pair = conflicts::first_conflict(costs::listed(objective), timing, n, departures);
     if pair.first < departures.len() {
-        return refused(9, pair.first, pair.second);
+        return refusals::refused(9, pair.first as u32, pair.second as u32);
     }
     Answer {
         outcome: Outcome::Value(total::total(objective, timing, one, two, n, departures)),

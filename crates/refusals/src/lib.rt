@@ -16,15 +16,15 @@ ghost use Rattle.rules.specs.Answers.{says, verdict};
 ghost use Rattle.rules.specs.Trains.{asked};
 ghost use Rattle.refusals.specs.Parts.{call-refusals, train-refusals, trains-in, first-bad};
 
-// The refusal with this number, whose first place names a train or is 0.
-fn refused(number: u32, first: u32) -> Answer
-    ensures { λ r. ⌜ r .outcome ≡ Outcome.Refused number first 0 ⌝ }
+// The refusal with this number and these places.
+pub fn refused(number: u32, first: u32, second: u32) -> Answer
+    ensures { λ r. ⌜ r .outcome ≡ Outcome.Refused number first second ⌝ }
 {
     Answer {
         outcome: Outcome::Refused {
             number,
             first,
-            second: 0,
+            second,
         },
     }
 }
@@ -91,19 +91,19 @@ fn call_refusal(objective: u32, timing: Timing, one: &[i32], two: &[i32]) -> Ans
     ensures { λ r. ⌜ says r ≡ verdict (call-refusals (asked objective timing (now (one .entry)) (now (two .entry)))) (pos 0) ⌝ }
 {
     if !known_objective(objective) {
-        return refused(1, 0);
+        return refused(1, 0, 0);
     }
     if !good_timing(timing) {
-        return refused(2, 0);
+        return refused(2, 0, 0);
     }
-    if ragged(objective, one) || ragged(objective, two) {
-        return refused(3, 0);
+    if ragged(objective, one) | ragged(objective, two) {
+        return refused(3, 0, 0);
     }
     if both_empty(one, two) {
-        return refused(4, 0);
+        return refused(4, 0, 0);
     }
-    if crowded(objective, one) || crowded(objective, two) {
-        return refused(5, 0);
+    if crowded(objective, one) | crowded(objective, two) {
+        return refused(5, 0, 0);
     }
     passed()
 }
@@ -137,15 +137,15 @@ fn train_refusal(objective: u32, one: &[i32], two: &[i32], places: usize) -> Ans
     let count = trains_in(objective, one);
     let bad = first_bad(objective, one);
     if bad < count {
-        return refused(6, bad as u32);
+        return refused(6, bad as u32, 0);
     }
     let others = trains_in(objective, two);
     let bad = first_bad(objective, two);
     if bad < others {
-        return refused(6, (count + bad) as u32);
+        return refused(6, (count + bad) as u32, 0);
     }
     if places != count + others {
-        return refused(7, 0);
+        return refused(7, 0, 0);
     }
     passed()
 }

@@ -61,11 +61,20 @@ module _ (f : tie.After-first-conflict) where
   unfolding aim
   found = carried (f .before .listed .ensures) ones (f .first-conflict .ensures)
 
+  -- the numbers of two trains in conflict are small
+  named : f .first-conflict .result .first < length (ds start) → (f .first-conflict .result .first ≤ 96) × (f .first-conflict .result .second ≤ 96)
+  named h =
+      let within = after-within (aim (S start) .listed) (S start .timing) (count-at (S start) one) (ds start) (f .first-conflict .result .first) h in
+      (omega (arith, few start), omega (arith, few start, found .by-second, within))
+
 first-late-requires : tie.Need-first-late-requires
 first-late-requires c κs = tt
 
+cast-refused : tie.Need-cast-refused
+cast-refused c = omega (arith, few (c .before .before .before))
+
 refused-requires : tie.Need-refused-requires
-refused-requires c κs = omega (arith, few (c .before .before .before))
+refused-requires c κs = tt
 
 returns : tie.Need-returns
 unfolding says
@@ -86,20 +95,21 @@ listed-requires c κs = tt
 first-conflict-requires : tie.Need-first-conflict-requires
 first-conflict-requires c κs = tt
 
+cast-refused-2 : tie.Need-cast-refused-2
+cast-refused-2 c = omega (arith, named (c .before .before .before) (c .before .if2 .taken))
+
+cast-refused-3 : tie.Need-cast-refused-3
+cast-refused-3 c = omega (arith, named (c .before .before .before .before) (c .before .before .if2 .taken))
+
 refused-requires-2 : tie.Need-refused-requires-2
-refused-requires-2 c κs =
-    let f = c .before .before in
-    let s = start f in
-    let second = found f .by-second in
-    let h : f .first-conflict .result .first < length (ds s) = c .if2 .taken in
-    omega (arith, few s, second, after-within (aim (S s) .listed) (S s .timing) (count-at (S s) one) (ds s) (f .first-conflict .result .first) h)
+refused-requires-2 c κs = tt
 
 returns-2 : tie.Need-returns-2
 unfolding says
 returns-2 c =
-    let f = c .before .before .before in
+    let f = c .before .before .before .before .before in
     let s = start f in
-    rw (c .refused2 .ensures) (conflict-refused (S s) (ds s) (s .pre) (all s) (in-time f) (found f) (c .before .if2 .taken))
+    rw (c .refused2 .ensures) (conflict-refused (S s) (ds s) (s .pre) (all s) (in-time f) (found f) (c .before .before .before .if2 .taken))
 
 total-requires : tie.Need-total-requires
 total-requires c κs =
@@ -118,12 +128,15 @@ judged-spec =
     tie.close
     (tie.spec
     first-late-requires
+    cast-refused
     refused-requires
     returns
     numbers-requires
     div-n
     listed-requires
     first-conflict-requires
+    cast-refused-2
+    cast-refused-3
     refused-requires-2
     returns-2
     total-requires

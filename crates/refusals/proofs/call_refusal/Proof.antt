@@ -1,7 +1,6 @@
 -- `refusals::call_refusal` meets its contract.
 use mathlib.Core.Bool.{_&&_, _||_}
 use mathlib.Core.List.{_++_}
-use mathlib.Core.Logic.{⊎-elim}
 use mathlib.Core.Path.{_≡_}
 use denote.Ref.{now}
 use lib.Dec.{eqb}
@@ -72,34 +71,29 @@ two-passed c =
     )
 
 three-passed :
-    (c : tie.Else4) →
-    let S = called (c .before .before .before .before .before .before .before .before) in
+    (c : tie.Else3) →
+    let S = called (c .before .before .before .before .before .before .before) in
     call-refusals S ≡
     refuse (eqb (length (S .one)) 0 && eqb (length (S .two)) 0) 4 ++ refuse (crowded S one || crowded S two) 5
 unfolding refuse ragged aim
 three-passed c =
     rw (
-      two-passed (c .before .before .before .before),
-      ← c .before .before .before .ragged .ensures,
-      c .before .before .if3 .left,
+      two-passed (c .before .before .before),
+      ← c .before .before .ragged .ensures,
       ← c .before .ragged2 .ensures,
-      c .if4 .left,
+      c .if3 .left,
     )
 
 returns-3 : tie.Need-returns-3
 unfolding says refuse ragged aim
 returns-3 c =
-    ⊎-elim
-    (λ w. rw (c .refused3 .ensures, two-passed (c .before .before .before), ← c .before .before .ragged .ensures, w .taken))
-    (λ w. rw (
+    rw (
       c .refused3 .ensures,
-      two-passed (c .before .before .before),
-      ← c .before .before .ragged .ensures,
-      w .0 .left,
-      ← w .1 .ensures,
-      w .2 .taken,
-    ))
-    (c .before .if3 .came)
+      two-passed (c .before .before .before .before),
+      ← c .before .before .before .ragged .ensures,
+      ← c .before .before .ragged2 .ensures,
+      c .before .if3 .taken,
+    )
 
 both-empty-requires : tie.Need-both-empty-requires
 both-empty-requires c κs = tt
@@ -114,7 +108,7 @@ returns-4 c =
       c .refused4 .ensures,
       three-passed (c .before .before .before),
       ← c .before .before .both-empty .ensures,
-      c .before .if5 .taken,
+      c .before .if4 .taken,
     )
 
 crowded-requires : tie.Need-crowded-requires
@@ -127,26 +121,22 @@ refused-requires-5 : tie.Need-refused-requires-5
 refused-requires-5 c κs = tt
 
 four-passed :
-    (c : tie.Else5) →
-    let S = called (c .before .before .before .before .before .before .before .before .before .before) in
+    (c : tie.Else4) →
+    let S = called (c .before .before .before .before .before .before .before .before .before) in
     call-refusals S ≡ refuse (crowded S one || crowded S two) 5
 unfolding refuse
-four-passed c = rw (three-passed (c .before .before), ← c .before .both-empty .ensures, c .if5 .left)
+four-passed c = rw (three-passed (c .before .before), ← c .before .both-empty .ensures, c .if4 .left)
 
 returns-5 : tie.Need-returns-5
 unfolding says refuse crowded count-at aim trains-in
 returns-5 c =
-    ⊎-elim
-    (λ w. rw (c .refused5 .ensures, four-passed (c .before .before .before), ← c .before .before .crowded .ensures, w .taken))
-    (λ w. rw (
+    rw (
       c .refused5 .ensures,
-      four-passed (c .before .before .before),
-      ← c .before .before .crowded .ensures,
-      w .0 .left,
-      ← w .1 .ensures,
-      w .2 .taken,
-    ))
-    (c .before .if6 .came)
+      four-passed (c .before .before .before .before),
+      ← c .before .before .before .crowded .ensures,
+      ← c .before .before .crowded2 .ensures,
+      c .before .if5 .taken,
+    )
 
 passed-requires : tie.Need-passed-requires
 passed-requires c κs = tt
@@ -156,11 +146,10 @@ unfolding says refuse crowded count-at aim trains-in
 returns-6 c =
     rw (
       c .passed .ensures,
-      four-passed (c .before .before .before .before .before),
-      ← c .before .before .before .before .crowded .ensures,
-      c .before .before .before .if6 .left,
+      four-passed (c .before .before .before .before),
+      ← c .before .before .before .crowded .ensures,
       ← c .before .before .crowded2 .ensures,
-      c .before .if7 .left,
+      c .before .if5 .left,
     )
 
 pub call-refusal-spec : {M : Type 1} → statement M
