@@ -15,7 +15,7 @@ use Rattle.rules.proofs.Trains.{count-on, count-past}
 use Rattle.theory.specs.Schedule.{All, Pairs}
 use Rattle.theory.proofs.Facts.{pairs-split, pairs-unmapped}
 
-length-count : (k n : ℕ) → length (count-from k n) ≡ n
+pub length-count : (k n : ℕ) → length (count-from k n) ≡ n
 length-count k zero = refl
 length-count k (suc n) = ap suc (length-count (suc k) n)
 

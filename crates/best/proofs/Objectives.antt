@@ -13,12 +13,16 @@ use Rattle.rules.specs.Figures.{figure, within, Step, used, good-row, last-cost
 use Rattle.rules.specs.Objectives.{Objective, larger, lateness, weighted, by-rows, aim-of}
 use Rattle.rules.specs.Trains.{Section, aim}
 use Rattle.rules.proofs.Tests.{both}
-use Rattle.theory.specs.Integers.{at, sum, largest}
+use Rattle.theory.specs.Integers.{Grade, nothing, at, number, sum, largest, larger as larger-grade}
 use Rattle.theory.proofs.Choices.{cond-ind}
 use Rattle.theory.proofs.Integers.{≤ℤ-trans, sum-ordered, largest-ordered, raise, lower}
 use Rattle.theory.proofs.Integers.{difference-rises, difference-swap, product-rises, product-swap}
 use Rattle.best.specs.Fair.{Listed, Trades, Fair}
 use Rattle.best.proofs.Keys.{not-less, by-key, turned}
+
+has-number : (a : ℤ) (g : Grade) → at (number (larger-grade (at a) g)) ≡ larger-grade (at a) g
+has-number a nothing = refl
+has-number a (at b) = refl
 
 -- an objective whose costs rise is fair by either way to join them
 module _ (O : Objective) (rises : (x : List ℤ) → T (O .good x) → (a b : ℕ) → a ≤ b → O .cost x a ≤ℤ O .cost x b) where
@@ -31,6 +35,10 @@ module _ (O : Objective) (rises : (x : List ℤ) → T (O .good x) → (a b : �
         joins = λ a b. rw e;
         up = λ h. h;
         down = λ a b h. h;
+        shown = λ z. z;
+        shown-none = refl;
+        shown-grade = λ a. refl;
+        shown-cost = λ a v. refl;
         rising = λ x g {a} {b}. rises x g a b;
         order = order;
       }
@@ -45,6 +53,10 @@ module _ (O : Objective) (rises : (x : List ℤ) → T (O .good x) → (a b : �
         joins = λ a b. rw e;
         up = raise;
         down = λ a b. lower;
+        shown = number;
+        shown-none = refl;
+        shown-grade = λ a. refl;
+        shown-cost = has-number;
         rising = λ x g {a} {b}. rises x g a b;
         order = order;
       }

@@ -34,7 +34,7 @@ found (Pairs.more {x = r} a p) =
     let n = r .train .number in
     All.more {x = r} (rw (eq-eqb n n refl)) (together (λ r′ h e. rw (ne-eqb (r′ .train .number) n h) e) a (found p))
 
-rebuilt : (f : Train → ℕ) {rs : List Run} → All (λ r. f (r .train) ≡ r .departure) rs
+pub rebuilt : (f : Train → ℕ) {rs : List Run} → All (λ r. f (r .train) ≡ r .departure) rs
     → map (leaving-at f) (map (λ r. r .train) rs) ≡ rs
 rebuilt f All.none = refl
 rebuilt f (All.more e a) = rw (e, rebuilt f a)

@@ -6,7 +6,7 @@ use mathlib.Core.Logic.{_⊎_}
 use mathlib.Core.Path.{_≡_}
 use Prim.Native.Nat.{ℕ, _≤_}
 use lib.Dec.{T}
-use lib.IntN.{ℤ}
+use lib.IntN.{ℤ, pos}
 use lib.Signed.{_≤ℤ_}
 use Rattle.rules.specs.Objectives.{Objective}
 use Rattle.theory.specs.Values.{Values, Ordered}
@@ -32,6 +32,11 @@ pub record Fair (O : Objective) : Type 1 where
   pub joins : (a b : ℤ) → grade (O .joined a b) ≡ values ._⊙_ (grade a) (grade b)
   pub up : {a b : ℤ} → a ≤ℤ b → values ._≼_ (grade a) (grade b)
   pub down : (a b : ℤ) → values ._≼_ (grade a) (grade b) → a ≤ℤ b
+  -- the number of a grade: nothing has 0, and whatever a cost is joined to has the number that it grades
+  pub shown : values .Val → ℤ
+  pub shown-none : shown (values .none) ≡ pos 0
+  pub shown-grade : (a : ℤ) → shown (grade a) ≡ a
+  pub shown-cost : (a : ℤ) (v : values .Val) → grade (shown (values ._⊙_ (grade a) v)) ≡ values ._⊙_ (grade a) v
   -- a later arrival costs no less
   pub rising : (x : List ℤ) → T (O .good x) → {a b : ℕ} → a ≤ b → O .cost x a ≤ℤ O .cost x b
   pub order : Listed O ⊎ Trades O values grade

@@ -36,7 +36,7 @@ mag-larger : (a b : ℤ) → mag (larger a b) ≤ mag a + mag b + 1
 unfolding larger
 mag-larger a b = cond-ind (λ z. mag z ≤ mag a + mag b + 1) (leZ a b) (λ t. omega arith) (λ t. omega arith)
 
-mag-within : (b : ℕ) (z : ℤ) → T (within (pos 0) (pos b) z) → mag z ≤ b
+pub mag-within : (b : ℕ) (z : ℤ) → T (within (pos 0) (pos b) z) → mag z ≤ b
 unfolding within
 mag-within b (pos n) h = omega (arith, leb→le n b ((simp both at h) .1))
 mag-within b (negsuc n) h = absurd h
@@ -46,7 +46,7 @@ unfolding within
 mag-signed b (pos n) h = omega (arith, leb→le n (suc b) h)
 mag-signed b (negsuc n) h = omega (arith, leb→le n b ((simp both at h) .0))
 
-mag-product : (b : ℕ) (z : ℤ) (a : ℕ) → T (within (pos 0) (pos b) z) → mag (z *ℤ pos a) ≤ b * a
+pub mag-product : (b : ℕ) (z : ℤ) (a : ℕ) → T (within (pos 0) (pos b) z) → mag (z *ℤ pos a) ≤ b * a
 unfolding within
 mag-product b (pos n) a h = mul-le-mul-right a (mag-within b (pos n) h)
 mag-product b (negsuc n) a h = absurd h
@@ -59,7 +59,7 @@ mag-last b begun (s ∷ ss) c h e =
     cond-ind (λ z. mag (last-cost c z) ≤ b) (begun s)
     (λ t. mag-last b begun ss (s .cost) (mag-within b (s .cost) first) rest) (λ t. mag-last b begun ss c h rest)
 
-joined-bound : (a b : ℤ) (n : ℕ) → mag (aim-of n .joined a b) ≤ mag a + mag b + 1
+pub joined-bound : (a b : ℤ) (n : ℕ) → mag (aim-of n .joined a b) ≤ mag a + mag b + 1
 unfolding lateness weighted by-rows
 joined-bound a b =
     each (λ _ _ O. mag (O .joined a b) ≤ mag a + mag b + 1) (λ _. mag-larger a b) (mag-sum a b) (mag-sum a b) (mag-larger a b)

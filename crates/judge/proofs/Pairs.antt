@@ -9,15 +9,7 @@ use lib.Dec.{ltb}
 use Rattle.rules.specs.Lists.{those, pairs, count-from}
 use Rattle.rules.proofs.Lists.{those-append}
 use Rattle.refusals.specs.Seek.{seek}
-use Rattle.refusals.proofs.Seek.{Begins, begins-append, none-pass, first-passes}
-
-pub seek-within : (p : ℕ → Bool) (k n : ℕ) → seek p k n ≤ k + n
-seek-within p k zero = omega arith
-seek-within p k (suc n) = within (p k) (seek-within p (suc k) n)
-  where
-    within : (b : Bool) {found : ℕ} → found ≤ suc k + n → cond b k found ≤ k + suc n
-    within true h = omega arith
-    within false h = omega arith
+use Rattle.refusals.proofs.Seek.{seek-within, Begins, begins-append, none-pass, first-passes}
 
 module _ (test : ℕ → ℕ → Bool) (end : ℕ) where
   -- the first number after i that passes with it, or the end; and whether there is one

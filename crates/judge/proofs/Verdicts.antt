@@ -18,9 +18,9 @@ use Rattle.rules.specs.declared.Outcome.the-variants.{Refused}
 use Rattle.rules.specs.Answers.{refused, says, verdict, judge-answers}
 use Rattle.refusals.specs.Seek.{seek}
 use Rattle.refusals.proofs.Parts.{stands}
-use Rattle.refusals.proofs.Seek.{Begins, begins, begins-append, none-pass, first-passes}
+use Rattle.refusals.proofs.Seek.{seek-within, Begins, begins, begins-append, none-pass, first-passes}
 use Rattle.judge.specs.Conflicts.{late, first-late, clash, conflict-after, first-conflict, Found}
-use Rattle.judge.proofs.Pairs.{seek-within, Sought, nothing, something, sought}
+use Rattle.judge.proofs.Pairs.{Sought, nothing, something, sought}
 use Rattle.judge.proofs.Refusals.{named, late-refusals, conflict-refusals}
 
 begins-map : {A B : Type 0} (f : A → B) {x : A} {xs : List A} → Begins x xs → Begins (f x) (map f xs)

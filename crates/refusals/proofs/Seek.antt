@@ -9,6 +9,14 @@ use native.Mathlib.Omega.{arith}
 use Rattle.rules.specs.Lists.{those, count-from}
 use Rattle.refusals.specs.Seek.{seek}
 
+pub seek-within : (p : ℕ → Bool) (k n : ℕ) → seek p k n ≤ k + n
+seek-within p k zero = omega arith
+seek-within p k (suc n) = within (p k) (seek-within p (suc k) n)
+  where
+    within : (b : Bool) {found : ℕ} → found ≤ suc k + n → cond b k found ≤ k + suc n
+    within true h = omega arith
+    within false h = omega arith
+
 -- A loop goes through the whole search: at k it finds a number that passes, goes on past one that does not, or has come to the end.
 module _ (p : ℕ → Bool) {whole : ℕ} (k n : ℕ) (from-here : whole ≡ seek p k (n - k)) where
   pub found : k < n → p k ≡ true → k ≡ whole

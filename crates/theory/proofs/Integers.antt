@@ -99,7 +99,7 @@ pub difference-swap : {a b : ℤ} {s t : ℕ} → a ≤ℤ b → s ≤ t → max
 difference-swap {a} {b} {s} {t} h k =
     ≤ℤ-trans (max-least (difference-rises a k) (+ℤ-mono (pos t) (negated h))) (max-left (pos t -ℤ a) (pos s -ℤ b))
 
-times-suc : (w : ℤ) (n : ℕ) → w *ℤ pos (suc n) ≡ w *ℤ pos n +ℤ w
+pub times-suc : (w : ℤ) (n : ℕ) → w *ℤ pos (suc n) ≡ w *ℤ pos n +ℤ w
 times-suc w n = *ℤ-comm w (pos (suc n)) ∙ sucℤ-*ℤ (pos n) w ∙ ap (λ z. z +ℤ w) (*ℤ-comm (pos n) w)
 
 -- a product rises with its second; the sum of two is least where the larger weight has the earlier second

@@ -21,6 +21,11 @@ not-above (at a) (at b) = leZ a b
 pub record Below (g h : Grade) : Type 0 where
   pub le : T (not-above g h)
 
+-- the number of a grade, 0 for nothing
+abbrev pub number : Grade → ℤ
+number nothing = pos 0
+number (at a) = a
+
 abbrev pub larger : Grade → Grade → Grade
 larger nothing h = h
 larger (at a) nothing = at a

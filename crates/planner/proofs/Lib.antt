@@ -1,0 +1,24 @@
+-- Laws behind the planner's code.
+pub mod Queue
+pub mod Ordering
+pub mod Places
+pub mod Lent
+pub mod Near
+pub mod CellPairs
+pub mod Left
+pub mod Sending
+pub mod Small
+pub mod Steady
+pub mod Later
+pub mod Underway
+pub mod Entries
+pub mod Squares
+pub mod Placing
+pub mod Filling
+pub mod Stepping
+pub mod PlanRuns
+pub mod Strides
+pub mod Timetable
+pub mod Results
+pub mod Beginning
+pub mod Unique
