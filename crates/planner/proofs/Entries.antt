@@ -1,9 +1,9 @@
 -- Where the tables hold the best of every smaller rest, what the code reads and chooses is the best of the rest.
 use mathlib.Core.Bool.{Bool, true, false, cond}
-use mathlib.Core.List.{List, [], _++_, map}
+use mathlib.Core.List.{List, _++_, map}
 use mathlib.Core.Logic.{by-cases}
 use mathlib.Core.Path.{_≡_, refl, sym, _∙_, ap, ap₂}
-use Prim.Native.Nat.{ℕ, zero, suc, _+_, _-_, _*_, _≤_, _<_}
+use Prim.Native.Nat.{ℕ, _+_, _*_, _≤_, _<_}
 use native.Mathlib.Decide.{decLe, ℕ-discrete}
 use native.Mathlib.Omega.{arith}
 use borrow.Author.Tests.{eq-eqb, ne-eqb}
@@ -13,8 +13,7 @@ use lib.ListN.{length, length-map, length-append}
 use lib.Signed.{mag}
 use Rattle.rules.specs.Line.{Station, one, two}
 use Rattle.rules.specs.Figures.{within}
-use Rattle.rules.specs.Trains.{Section, aim, count-at, Train}
-use Rattle.theory.specs.Schedule.{All}
+use Rattle.rules.specs.Trains.{Section, aim, count-at}
 use Rattle.theory.proofs.Facts.{all-append, all-mapped}
 use Rattle.best.proofs.Accepted.{Accepted}
 use Rattle.line.specs.Station.{station}
@@ -23,14 +22,14 @@ use Rattle.refusals.proofs.Table.{most-bound}
 use Rattle.planner.specs.declared.clock.Clock.{Clock}
 use Rattle.planner.specs.Clock.{Near, alone}
 use Rattle.planner.specs.Rests.{Table, entry, side, day, looked-up, Held, through, Sends, lesser, best-by, Chooses}
-use Rattle.planner.specs.Cells.{rises, cell-clock, after, gone-of, seconds}
+use Rattle.planner.specs.Cells.{rises, cell-clock, after, gone-of}
 use Rattle.planner.specs.Day.{terms-of, left, figures-left, next-of, sends, since, earliest, rest-from, rest, comes-to, at, gone, Running, Right, Tables}
 use Rattle.planner.proofs.Left.{left-none, left-count, left-good}
 use Rattle.planner.proofs.Sending.{rest-none, rest-one, rest-two, rest-both}
 use Rattle.planner.proofs.Steady.{steady, rises-most, wider}
 use Rattle.planner.proofs.Later.{from-start}
 use Rattle.planner.proofs.Underway.{next-running}
-use Rattle.planner.proofs.Small.{cost-small, sent-small, rest-small, one-fewer}
+use Rattle.planner.proofs.Small.{sent-small, rest-small, one-fewer}
 
 module _ (S : Section) where
   -- a clock under way counts from its last departure, whatever its changes and its value

@@ -1,9 +1,9 @@
 -- A cell that is chosen from right tables is right, and once it is stored the tables are right one place further.
-use mathlib.Core.Bool.{Bool, true, false, cond, true≢false}
-use mathlib.Core.List.{List, [], _∷_, _++_, map}
+use mathlib.Core.Bool.{Bool, true, false, true≢false}
+use mathlib.Core.List.{List, [], _++_, map}
 use mathlib.Core.Logic.{by-cases}
 use mathlib.Core.Path.{_≡_, refl, sym, _∙_, ap, ap₂, subst}
-use Prim.Native.Nat.{ℕ, zero, suc, _+_, _-_, _*_, _≤_, _<_}
+use Prim.Native.Nat.{ℕ, _+_, _-_, _*_, _≤_, _<_}
 use native.Mathlib.Nat.{mul-le-mul-left}
 use native.Mathlib.Decide.{ℕ-discrete}
 use native.Mathlib.Omega.{arith}
@@ -11,18 +11,16 @@ use borrow.Author.Tests.{eq-eqb, ne-eqb}
 use lib.Dec.{T}
 use lib.IntN.{ℤ, pos}
 use lib.ListN.{getD}
-use lib.Signed.{mag}
 use mir.Syntax.{w64}
 use mir.Val.{SFits}
 use Rattle.rules.specs.declared.Timing.{Timing}
-use Rattle.rules.specs.Line.{Station, one, two, good-timing, gap}
+use Rattle.rules.specs.Line.{Station, one, two, good-timing}
 use Rattle.rules.specs.Figures.{within}
 use Rattle.rules.specs.Objectives.{aim-of}
 use Rattle.rules.specs.Trains.{Section, aim, count-at}
 use Rattle.rules.proofs.Line.{gap-most}
 use Rattle.best.proofs.Accepted.{Accepted}
 use Rattle.costs.proofs.Bounds.{mag-within}
-use Rattle.planner.specs.declared.clock.Clock.{Clock}
 use Rattle.planner.specs.declared.clock.Terms.{Terms}
 use Rattle.planner.specs.Trains.{next-figures}
 use Rattle.planner.specs.Rests.{Table, entry, side, best-by, Chooses}
@@ -208,6 +206,21 @@ module _ (S : Section) (A : Accepted S) {counts changes : Table} (n m : ℕ) (ta
             right = further here-changed earlier-changed;
           }
 
+-- of a cell of either table: what the function that makes it asks, where it stands, and what the tables are once it is stored
+pub record ChangeCell (w : Terms) (list list′ : List ℤ) (counts changes : Table) (n m : ℕ) (x y : List ℤ) : Type 0 where
+  pub asks : Changes w x y n m counts changes
+  pub place : (n < 13) × (m < 13)
+  pub stored : (cell : List ℤ)
+      → Pairs (gone-of w n m) (λ k b. best-by w (after b (cell-clock (seconds (w .timing) k (gone-of w n m)) k n m)) x y counts changes) cell
+      → Tables (asked-by w list list′) counts (stored changes n m cell) (n * 49 + m + 1)
+
+pub record CountCell (w : Terms) (list list′ : List ℤ) (counts changes : Table) (n m : ℕ) (x y : List ℤ) : Type 0 where
+  pub asks : ((b : Bool) → Chooses w (at b 0 n m) x y counts changes) × Rates (w .objective) x y n m counts
+  pub place : (n < 49) × (m < 49)
+  pub stored : (cell : List ℤ)
+      → Pairs 1 (λ k b. best-by w (at b 0 n m) x y counts changes) cell × (getD cell 2 (pos 0) ≡ rate (w .objective) x y n m counts)
+      → Tables (asked-by w list list′) (stored counts n m cell) changes (n * 49 + m + 1)
+
 -- the same by a call's terms, with the figures that the code has taken
 module _ (w : Terms) (list list′ : List ℤ) (places places′ : List ℕ) (P : Planning w list list′ places places′) {counts changes : Table} (n m : ℕ)
     (few : (n ≤ w .ones) × (m ≤ w .twos)) (tables : Tables (asked-by w list list′) counts changes (n * 49 + m)) {x y : List ℤ}
@@ -228,15 +241,15 @@ module _ (w : Terms) (list list′ : List ℤ) (places places′ : List ℕ) (P 
   second some = y-next ∙ second-next w list list′ places places′ P m (few .1) some
 
   module _ (listed : aim-of (w .objective) .listed ≡ true) where
-    pub row-place : (n < 13) × (m < 13)
+    row-place : (n < 13) × (m < 13)
     unfolding aim
     row-place = (omega (arith, ones-few, rows-few S (P .accepted) one listed), omega (arith, twos-few, rows-few S (P .accepted) two listed))
 
-    pub change-asks : Changes w x y n m counts changes
+    change-asks : Changes w x y n m counts changes
     unfolding aim
     change-asks = rw (P .terms) (change-changes S (P .accepted) n m tables ones-few twos-few x y first second listed)
 
-    pub change-stored : (cell : List ℤ)
+    change-stored : (cell : List ℤ)
         → Pairs (gone-of w n m) (λ k b. best-by w (after b (cell-clock (seconds (w .timing) k (gone-of w n m)) k n m)) x y counts changes) cell
         → Tables S counts (stored changes n m cell) (n * 49 + m + 1)
     unfolding aim
@@ -244,24 +257,30 @@ module _ (w : Terms) (list list′ : List ℤ) (places places′ : List ℕ) (P 
         changes-filled S (P .accepted) n m tables ones-few twos-few x y first second listed cell
         (subst (λ v. Pairs (gone-of v n m) (λ k b. best-by v (after b (cell-clock (seconds (w .timing) k (gone-of v n m)) k n m)) x y counts changes) cell) (P .terms) pairs)
 
+    pub change-cell : ChangeCell w list list′ counts changes n m x y
+    change-cell = record { asks = change-asks; place = row-place; stored = change-stored }
+
   module _ (free : aim-of (w .objective) .listed ≡ false) where
-    pub count-place : (n < 49) × (m < 49)
+    count-place : (n < 49) × (m < 49)
     count-place = (omega (arith, ones-few, count-few S (P .accepted) one), omega (arith, twos-few, count-few S (P .accepted) two))
 
-    pub count-asks : ((b : Bool) → Chooses w (at b 0 n m) x y counts changes) × Rates (w .objective) x y n m counts
+    count-asks : ((b : Bool) → Chooses w (at b 0 n m) x y counts changes) × Rates (w .objective) x y n m counts
     unfolding aim
     count-asks = (
       λ b. rw (P .terms) (count-chooses S (P .accepted) n m tables ones-few twos-few x y first second free b),
       count-rates S (P .accepted) n m tables ones-few twos-few x y first second free,
     )
 
-    pub count-stored : (cell : List ℤ)
+    count-stored : (cell : List ℤ)
         → Pairs 1 (λ k b. best-by w (at b 0 n m) x y counts changes) cell × (getD cell 2 (pos 0) ≡ rate (w .objective) x y n m counts)
         → Tables S (stored counts n m cell) changes (n * 49 + m + 1)
     unfolding aim
     count-stored cell h =
         counts-filled S (P .accepted) n m tables ones-few twos-few x y first second free cell
         (subst (λ v. Pairs 1 (λ k b. best-by v (at b 0 n m) x y counts changes) cell) (P .terms) (h .0)) (h .1)
+
+    pub count-cell : CountCell w list list′ counts changes n m x y
+    count-cell = record { asks = count-asks; place = count-place; stored = count-stored }
 
 -- a row that is right past its last cell is right altogether
 pub row-filled : (w : Terms) (list list′ : List ℤ) (places places′ : List ℕ) → Planning w list list′ places places′ → {counts changes : Table} (n k : ℕ) → w .twos < k

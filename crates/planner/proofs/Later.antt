@@ -10,7 +10,7 @@ use native.Mathlib.Omega.{arith}
 use lib.IntN.{ℤ, pos, _+ℤ_, _*ℤ_}
 use lib.ListN.{length, length-map, length-append}
 use Rattle.rules.specs.Line.{one, two, gap, running, arrival}
-use Rattle.rules.specs.Trains.{Section, aim, count-at, Train}
+use Rattle.rules.specs.Trains.{Section, aim, count-at}
 use Rattle.line.specs.Station.{station}
 use Rattle.planner.specs.declared.clock.Clock.{Clock}
 use Rattle.planner.specs.Clock.{departs, alone}

@@ -3,20 +3,19 @@ use mathlib.Core.Bool.{Bool, true, false, cond}
 use mathlib.Core.List.{List, [], _∷_}
 use mathlib.Core.Logic.{by-cases}
 use mathlib.Core.Path.{_≡_, refl, sym, _∙_, ap, ap₂}
-use Prim.Native.Nat.{ℕ, zero, suc, _+_, _-_, _≤_, _<_, max}
+use Prim.Native.Nat.{ℕ, _+_, _-_, _≤_, _<_, max}
 use native.Mathlib.Decide.{decLe, ℕ-discrete}
 use native.Mathlib.Omega.{arith}
 use borrow.Author.Tests.{eq-eqb, ne-eqb}
-use lib.Dec.{eqb}
 use lib.IntN.{ℤ, pos}
 use lib.ListN.{length}
 use lib.Signed.{leZ, leZ-yes}
-use Rattle.rules.specs.Line.{Station, one, two, gap}
+use Rattle.rules.specs.Line.{one, two, gap}
 use Rattle.rules.specs.Objectives.{aim-of}
 use Rattle.rules.specs.Trains.{Section, aim, count-at, Train}
 use Rattle.rules.specs.Value.{cost-of}
 use Rattle.theory.specs.Schedule.{after}
-use Rattle.theory.specs.Orders.{best, least, pick}
+use Rattle.theory.specs.Orders.{best, least}
 use Rattle.theory.proofs.Choices.{pick-ind, cond-ind}
 use Rattle.theory.proofs.Values.{none-right}
 use Rattle.best.specs.Fair.{Fair}

@@ -5,11 +5,11 @@ use mathlib.Core.List.{List, [], _∷_, _++_}
 use mathlib.Core.Logic.{_↔_}
 use mathlib.Core.Path.{_≡_, refl, sym, _∙_, ap, ap₂}
 use Prim.Native.Nat.{ℕ, zero, suc, _+_, _*_, _<_, _≤_}
-use native.Mathlib.Nat.{add-zero, add-suc, zero-add, one-mul}
+use native.Mathlib.Nat.{add-zero, add-suc, one-mul}
 use native.Mathlib.Omega.{arith}
 use lib.Dec.{T, leb→le, le→leb}
 use lib.IntN.{ℤ, pos, negsuc, negℤ, _+ℤ_, _-ℤ_, _*ℤ_}
-use lib.IntN.{+ℤ-assoc, +ℤ-comm, +ℤ-idl, +ℤ-idr, +ℤ-invr, +ℤ-negℤ-cancel, *ℤ-zero, *ℤ-one, pos-+ℤ-pos, pos-*ℤ-pos}
+use lib.IntN.{+ℤ-assoc, +ℤ-comm, +ℤ-idr, +ℤ-negℤ-cancel, *ℤ-zero, *ℤ-one, pos-+ℤ-pos, pos-*ℤ-pos}
 use lib.ListN.{length}
 use lib.Signed.{_≤ℤ_, leZ, leZ-yes}
 use Rattle.rules.specs.Figures.{figure, within}

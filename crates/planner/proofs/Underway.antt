@@ -2,7 +2,7 @@
 use mathlib.Core.Bool.{Bool, true, false, not, _&&_, cond, true≢false}
 use mathlib.Core.List.{List}
 use mathlib.Core.Path.{_≡_, refl, sym, _∙_, ap, ap₂}
-use Prim.Native.Nat.{ℕ, zero, suc, _+_, _-_, _*_, _≤_, _<_}
+use Prim.Native.Nat.{ℕ, suc, _+_, _-_, _≤_, _<_}
 use native.Mathlib.Nat.{suc-mul, zero-mul}
 use native.Mathlib.Omega.{arith}
 use lib.Dec.{T}
