@@ -1,0 +1,12 @@
+-- `text::read::parts` meets its contract.
+use borrow.Author.Needs.{needs}
+use Rattle.text.specs.Words.{parts}
+use Rattle.text.proofs.read.parts.Statement.{statement}
+use Rattle.text.proofs.read.parts.Tie as tie
+
+returns : tie.Need-returns
+unfolding parts
+returns c = search needs
+
+pub parts-spec : {M : Type 1} → statement M
+parts-spec = tie.close (tie.spec returns)

@@ -1,0 +1,22 @@
+-- `text::write::Written::byte` meets its contract: the byte stands after those that are written.
+use borrow.Author.Needs.{needs}
+use native.Mathlib.Numerals.{add-one}
+use Prim.Native.Nat.{_<_}
+use lib.ListN.{length}
+use lib.Seq.{take-suc-set}
+use Rattle.text.proofs.write.Written.byte.Statement.{statement}
+use Rattle.text.proofs.write.Written.byte.Tie as tie
+
+element-write-self : tie.Need-element-write-self
+element-write-self c = search needs
+
+add-self : tie.Need-add-self
+add-self c = search needs
+
+returns : tie.Need-returns
+returns c =
+    let h : c .args .t1 .count < length (c .args .t1 .bytes) = search needs in
+    record { counts = search needs; shows = rw (add-one, take-suc-set) }
+
+pub byte-spec : {M : Type 1} → statement M
+byte-spec = tie.close (tie.spec element-write-self add-self returns)

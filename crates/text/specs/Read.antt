@@ -1,0 +1,29 @@
+-- What is found in a text by a reader that has room for 1,543 numbers: three sections of 512, the heading, and their counts.
+-- A text with more numbers than that is unreadable too.
+use mathlib.Core.Bool.{cond}
+use mathlib.Core.List.{List}
+use mathlib.Core.Path.{_≡_}
+use Prim.Native.Nat.{ℕ, _≤_}
+use lib.Dec.{leb}
+use lib.IntN.{ℤ}
+use lib.ListN.{length, take}
+use Rattle.text.specs.declared.read.Scan.{Scan}
+use Rattle.text.specs.declared.read.Scan.the-variants.{All, Bad}
+use Rattle.text.specs.Numbers.{Numbers, all, unreadable, numbers}
+
+abbrev pub few : Numbers → Numbers
+few (all zs) = cond (leb (length zs) 1543) (all zs) unreadable
+few unreadable = unreadable
+
+-- what a scan says, with the values that it leaves
+abbrev pub shown : Scan → List ℤ → Numbers
+shown (All n) values = all (take n values)
+shown Bad values = unreadable
+
+abbrev pub counted : Scan → ℕ
+counted (All n) = n
+counted Bad = 0
+
+pub record Reads (text : List ℕ) (r : Scan) (values : List ℤ) : Type 0 where
+  pub found : shown r values ≡ few (numbers text)
+  pub within : counted r ≤ 1543
