@@ -4,19 +4,13 @@ use rules::Answer;
 use rules::Outcome;
 use rules::Timing;
 
-// A number without its sign. From -1 downwards -1 - n is not negative, and fits even where -n does not.
-fn magnitude(n: i64) -> u64 {
-    if n < 0 { (-1 - n) as u64 + 1 } else { n as u64 }
-}
-
 // Writes a space and a number with its sign.
 fn print_signed(n: i64) {
-    if n < 0 {
-        io::write_all(1, b" -");
-    } else {
-        io::write_all(1, b" ");
-    }
-    io::print_decimal(1, magnitude(n));
+    let written = text::write::number(n);
+    let bytes = written.bytes;
+    let count = written.count;
+    io::write_all(1, b" ");
+    io::write_all(1, &bytes[..count]);
 }
 
 // Writes a space and a number.
