@@ -1,0 +1,77 @@
+-- What is put onto a page piece by piece is put as one.
+use mathlib.Core.List.{List, [], _∷_, _++_, append-assoc, append-nil}
+use mathlib.Core.Path.{_≡_, sym, _∙_, ap}
+use Prim.Native.Nat.{ℕ, _+_, _-_, _≤_, _<_, _^_}
+use native.Mathlib.Omega.{arith}
+use borrow.Author.Tests.{lt-ltb, le-ltb}
+use lib.Dec.{ltb}
+use lib.IntN.{ℤ, pos}
+use lib.ListN.{length, take, length-append}
+use mir.Syntax.{w64}
+use mir.Val.{SFits, toZ}
+use mir.Facts.{toZ-pos}
+use Rattle.rules.specs.declared.Timing.{Timing}
+use Rattle.theory.proofs.Choices.{cond-ind}
+use Rattle.text.specs.Written.{signed}
+use Rattle.text.proofs.Decimal.{signed-length}
+use Rattle.section_file.specs.Lines.{line}
+use Rattle.section_file.specs.Page.{Put}
+use Rattle.section_file.specs.Printing.{kth-line}
+
+pub put-on : {page page′ page″ : List ℕ} {at r r′ : ℕ} {bytes more : List ℕ} → Put page at bytes page′ r → Put page′ r more page″ r′
+    → Put page at (bytes ++ more) page″ r′
+put-on {page = page} {at = at} {bytes = bytes} {more = more} p q =
+    record {
+      ends = omega (arith, p .ends, q .ends, length-append bytes more);
+      shows = q .shows ∙ ap (λ z. z ++ more) (p .shows) ∙ append-assoc (take at page) bytes more;
+      whole = q .whole;
+    }
+
+-- a number takes at most 20 bytes, and one after a space 21
+pub number-room : {page page′ : List ℕ} {at r : ℕ} (z : ℤ) → SFits w64 z → Put page at (signed z) page′ r → r ≤ at + 20
+number-room z fits p = omega (arith, p .ends, signed-length z fits)
+
+pub field-room : {page page′ : List ℕ} {at r : ℕ} (z : ℤ) → SFits w64 z → Put page at (32 ∷ signed z) page′ r → r ≤ at + 21
+field-room z fits p = omega (arith, p .ends, signed-length z fits)
+
+pub put-nothing : (page : List ℕ) (at : ℕ) → length page ≡ 8192 → Put page at [] page at
+put-nothing page at whole = record { ends = omega arith; shows = sym (append-nil (take at page)); whole = whole }
+
+digits-few : (n : ℕ) → n < 2 ^ 63 → length (signed (pos n)) ≤ 20
+digits-few n h = signed-length (pos n) (record { sfits = h })
+
+-- a line of four numbers takes at most 84 bytes
+four : {a b c d : ℕ} → a < 2 ^ 63 → b < 2 ^ 63 → c < 2 ^ 63 → d < 2 ^ 63
+    → length (line (signed (pos a) ∷ signed (pos b) ∷ signed (pos c) ∷ signed (pos d) ∷ [])) ≤ 84
+four {a} {b} {c} {d} h i j k =
+    simp length-append (omega (arith, digits-few a h, digits-few b i, digits-few c j, digits-few d k))
+
+-- three words of 32 bits, as the numbers that they are
+pub three-words : {page page′ : List ℕ} {at r : ℕ} {a b c : ℕ} → a < 2 ^ 32 → b < 2 ^ 32 → c < 2 ^ 32
+    → Put page at (32 ∷ line (signed (toZ w64 a) ∷ signed (toZ w64 b) ∷ signed (toZ w64 c) ∷ [])) page′ r
+    → Put page at (32 ∷ line (signed (pos a) ∷ signed (pos b) ∷ signed (pos c) ∷ [])) page′ r
+three-words {a = a} {b = b} {c = c} h i j p =
+    rw (toZ-pos w64 {n = a} (omega arith), toZ-pos w64 {n = b} (omega arith), toZ-pos w64 {n = c} (omega arith)) at p
+
+-- a train's line: its station's number, then the other three
+module _ (t : Timing) (ones k departure : ℕ) (few : k ≤ 96) (d-fits : departure < 2 ^ 32) (p-fits : t .running < 2 ^ 32) where
+  abbrev three : ℕ → List ℕ
+  three place = 32 ∷ line (signed (toZ w64 place) ∷ signed (toZ w64 departure) ∷ signed (toZ w64 (departure + t .running)) ∷ [])
+
+  pub first-line : {page page′ page″ : List ℕ} {at r r′ : ℕ} → k < ones → Put page at (signed (pos 1)) page′ r → Put page′ r (three k) page″ r′
+      → Put page at (kth-line t ones k departure) page″ r′
+  unfolding kth-line
+  first-line h p q =
+      rw (lt-ltb k ones h) (put-on p (rw (toZ-pos w64 {n = k} (omega arith), toZ-pos w64 {n = departure} (omega arith), toZ-pos w64 {n = departure + t .running} (omega arith)) at q))
+
+  pub second-line : {page page′ page″ : List ℕ} {at r r′ : ℕ} → ones ≤ k → Put page at (signed (pos 2)) page′ r → Put page′ r (three (k - ones)) page″ r′
+      → Put page at (kth-line t ones k departure) page″ r′
+  unfolding kth-line
+  second-line h p q =
+      rw (le-ltb k ones h) (put-on p (rw (toZ-pos w64 {n = k - ones} (omega arith), toZ-pos w64 {n = departure} (omega arith), toZ-pos w64 {n = departure + t .running} (omega arith)) at q))
+
+  pub line-room : length (kth-line t ones k departure) ≤ 84
+  unfolding kth-line
+  line-room =
+      four (cond-ind (λ n. n < 2 ^ 63) (ltb k ones) (λ _. omega arith) (λ _. omega arith))
+      (cond-ind (λ n. n < 2 ^ 63) (ltb k ones) (λ _. omega arith) (λ _. omega arith)) (omega arith) (omega arith)
