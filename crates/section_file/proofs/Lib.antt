@@ -4,3 +4,4 @@ pub mod Puts
 pub mod Trains
 pub mod TrainLines
 pub mod Outcomes
+pub mod Files

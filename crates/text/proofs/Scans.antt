@@ -56,7 +56,7 @@ module _ {text : List ℕ} {values : List ℤ} {count at : ℕ} (b : Begun text 
   finished h =
       let whole : all (take count values) ≡ numbers text = simp (drop-of-length-le text h, append-nil) at (b .read) in
       let few-enough : length (take count values) ≤ 1543 = rw length-take (omega arith) in
-      record { found = rw (← whole, le-leb (length (take count values)) 1543 few-enough); within = b .counted }
+      record { found = rw (← whole, le-leb (length (take count values)) 1543 few-enough); within = b .counted; room = b .room }
 
   module _ {end : ℕ} (ends : end ≡ at + word-length (drop at text)) where
     pub goes-on : end ≤ at → Begun text values count (end + 1)
@@ -73,10 +73,11 @@ module _ {text : List ℕ} {values : List ℤ} {count at : ℕ} (b : Begun text 
           record {
             found = rw (← at-word) (too-many (take count values) all-values (number (take (end - at) (drop at text))) (from text (end + 1)));
             within = omega arith;
+            room = b .room;
           }
 
       pub no-number : number (take (end - at) (drop at text)) ≡ Not → Reads text Bad values
-      no-number e = record { found = ap few (rw e at at-word); within = omega arith }
+      no-number e = record { found = ap few (rw e at at-word); within = omega arith; room = b .room }
 
       pub one-more :
           {z : ℤ} → count < 1543 → number (take (end - at) (drop at text)) ≡ Is z → Begun text (set values count z) (count + 1) (end + 1)

@@ -27,3 +27,4 @@ counted Bad = 0
 pub record Reads (text : List ℕ) (r : Scan) (values : List ℤ) : Type 0 where
   pub found : shown r values ≡ few (numbers text)
   pub within : counted r ≤ 1543
+  pub room : length values ≡ 1543
