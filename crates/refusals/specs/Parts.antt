@@ -13,7 +13,6 @@ use Rattle.rules.specs.Trains.{Section, aim, count, trains}
 use Rattle.rules.specs.Refusals.{Refusal, refuse, naming, known, ragged, crowded}
 use Rattle.refusals.specs.Seek.{seek}
 
--- what a call asks about
 -- refusals 1 to 5: of the call's numbers and its lists' lengths
 unfoldable pub call-refusals : Section → List Refusal
 call-refusals S =

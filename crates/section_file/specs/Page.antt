@@ -1,4 +1,5 @@
--- Bytes put onto a page of 4,096 bytes after its first `at`: they end at `r`, and the page is then page′.
+-- Bytes put onto a page of 8,192 bytes after its first `at`: they end at `r`, and the page is then page′.
+-- No public promise cites this.
 use mathlib.Core.List.{List, _++_}
 use mathlib.Core.Path.{_≡_}
 use Prim.Native.Nat.{ℕ, _+_}
