@@ -3,6 +3,7 @@
 pub mod Layout
 pub mod Lines
 pub mod Answer
+pub mod Examples
 pub mod Found
 pub mod Page
 pub mod Printing

@@ -5,20 +5,21 @@ use Prim.Native.Nat.{ℕ, _-_}
 use Rattle.rules.specs.Line.{Station, one, two, arrival}
 use Rattle.rules.specs.Trains.{Section, first-number, Run, runs}
 use Rattle.rules.specs.Answers.{Verdict, value-is, refused}
+use Rattle.text.specs.Bytes.{bytes}
 use Rattle.text.specs.Written.{decimal, signed}
 
 -- the words of an answer
 unfoldable pub planned : List ℕ
-planned = 112 ∷ 108 ∷ 97 ∷ 110 ∷ 110 ∷ 101 ∷ 100 ∷ []
+planned = bytes "planned"
 
 unfoldable pub judged : List ℕ
-judged = 106 ∷ 117 ∷ 100 ∷ 103 ∷ 101 ∷ 100 ∷ []
+judged = bytes "judged"
 
 unfoldable pub refused-word : List ℕ
-refused-word = 114 ∷ 101 ∷ 102 ∷ 117 ∷ 115 ∷ 101 ∷ 100 ∷ []
+refused-word = bytes "refused"
 
 unfoldable pub unreadable-word : List ℕ
-unreadable-word = 117 ∷ 110 ∷ 114 ∷ 101 ∷ 97 ∷ 100 ∷ 97 ∷ 98 ∷ 108 ∷ 101 ∷ []
+unreadable-word = bytes "unreadable"
 
 -- fields, parted by a space, as a line
 abbrev pub line : List (List ℕ) → List ℕ

@@ -1,0 +1,21 @@
+// The page's other cases and the odd texts of the section file, each answered by the proved function.
+// Each answer stands below the name of its case.
+mod draft;
+mod grammar;
+mod largest;
+mod page;
+
+fn main() {
+    page::steps();
+    page::timings();
+    page::weights_and_due_times();
+    page::recorded();
+    page::refused_lists();
+    largest::stations();
+    largest::sections();
+    largest::texts();
+    grammar::space();
+    grammar::numbers();
+    grammar::minus();
+    grammar::sections();
+}
