@@ -2,7 +2,7 @@
 // A station is told by whether it is station 1.
 use rules::Timing;
 ghost use mathlib.Core.Path.{_≡_};
-ghost use Prim.Native.Nat.{_<_, _^_};
+ghost use Prim.Native.Nat.{_+_, _-_, _<_, _^_};
 ghost use Rattle.rules.specs.Line.{gap as gap-of, arrival as arrival-at, apart as apart-of, same-station};
 ghost use Rattle.line.specs.Station.{station};
 
@@ -40,16 +40,19 @@ pub fn arrival(timing: Timing, from_one: bool, departure: u32) -> u32
     departure + timing.running
 }
 
-// Whether one of two departures is at least the gap after the other.
+// Seconds between two departures, whichever is first.
+fn between(departure: u32, departed: u32) -> u32
+    ensures { λ r. ⌜ r ≡ (departure - departed) + (departed - departure) ⌝ }
+{
+    if departure < departed {
+        return departed - departure;
+    }
+    departure - departed
+}
+
+// Whether two departures are at least the gap apart.
 pub fn apart(timing: Timing, one: bool, departure: u32, other: bool, departed: u32) -> bool
     ensures { λ r. ⌜ r ≡ apart-of timing (station one) departure (station other) departed ⌝ }
 {
-    let d = departure as u64;
-    let e = departed as u64;
-    let on = gap(timing, one, other) as u64;
-    if d + on <= e {
-        return true;
-    }
-    let back = gap(timing, other, one) as u64;
-    e + back <= d
+    gap(timing, one, other) <= between(departure, departed)
 }
