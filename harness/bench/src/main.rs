@@ -2,6 +2,7 @@
 
 mod cases;
 mod plain;
+mod program;
 mod timing;
 
 use std::hint::black_box;
@@ -27,10 +28,14 @@ fn main() {
             || judge_all(cases, plain::judge),
         )
     });
-    println!("\nproved, whole text: read, plan and print the longest of the files");
+    println!("\nproved, the longest of the files: read, planned and printed; then the program as a whole");
     for (objective, trains) in [(1, 48), (2, 48), (3, 12), (4, 12)] {
         whole_text(objective, trains);
     }
+    println!(
+        "no text: the program as a whole {:>10.0}",
+        program_time(b"")
+    );
     println!("\nCleared by each planning call: proved, the tables of both kinds of objective");
     println!("(57,624 and 64,896 bytes); plain, only the table of the objective at hand.");
 }
@@ -81,5 +86,15 @@ fn whole_text(objective: u32, trains: usize) {
         black_box(linked::answer_text_into(black_box(&text), &mut answer));
     });
     let bytes = text.len();
-    println!("objective {objective}, {trains} + {trains} trains, {bytes} bytes: {time:.0}");
+    let whole = program_time(&text);
+    println!("objective {objective}, {trains} + {trains} trains, {bytes} bytes: {time:>10.0}{whole:>10.0}");
+}
+
+/// Nanoseconds for one run of the program on a text.
+fn program_time(text: &[u8]) -> f64 {
+    let expected = linked::answer_text(text);
+    alone(|| {
+        let answer = program::answer(text).expect("first build it: `rt check section`");
+        assert_eq!(answer, expected);
+    })
 }
