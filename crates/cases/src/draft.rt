@@ -13,7 +13,7 @@ pub fn show(name: &[u8], text: &[u8]) {
 // Shows the first bytes of a text.
 pub fn show_first(name: &[u8], text: &[u8], count: usize) {
     if count <= text.len() {
-        show(name, &text[..count]);
+        show(name, &text[0..count]);
     }
 }
 

@@ -1,19 +1,21 @@
 -- A row by the places of its figures: its used steps and the rest as stretches, what it costs step by step, and the rule of a good row.
-use mathlib.Core.Bool.{Bool, true, false, cond, _&&_, and-assoc}
+use borrow.Author.Tests.{le-leb}
+use mathlib.Core.Bool.{Bool, true, false, cond, _&&_}
 use mathlib.Core.List.{List, [], _∷_, map, map-append}
 use mathlib.Core.Path.{_≡_, refl, ap, _∙_}
 use mir.Facts.{and-yes}
-use Prim.Native.Nat.{ℕ, zero, suc, _+_, _-_, _<_, zero-le, min}
-use native.Mathlib.Nat.{zero-add, add-suc}
+use Prim.Native.Nat.{ℕ, zero, suc, _+_, _-_, _≤_, _<_, min}
+use native.Mathlib.Nat.{zero-add}
 use native.Mathlib.Omega.{arith}
-use lib.Dec.{T, le→leb}
-use lib.Ieee.Bits.{is-true}
+use lib.Dec.{T, leb, leb→le}
 use lib.IntN.{ℤ, pos, negsuc, natAbs}
 use lib.Signed.{leZ, ltZ}
 use Rattle.rules.specs.Lists.{those, every, neighbours, count-from}
 use Rattle.rules.specs.Figures.{Step, figure, within, is-zero, steps, used, unused, last-cost, row-cost, good-row}
 use Rattle.rules.proofs.Lists.{those-append}
-use Rattle.costs.proofs.Stretches.{every-both, last-cost-append, count-last, take-count, drop-count}
+use Rattle.costs.specs.Steps.{rises, good-step}
+use Rattle.costs.proofs.Counts.{counted-one}
+use Rattle.costs.proofs.Stretches.{exchange-four, every-map, every-split, last-cost-append, count-last, take-count, drop-count}
 
 abbrev step : List ℤ → ℕ → Step
 step x k = record { start = figure x (1 + k); cost = figure x (9 + k) }
@@ -56,78 +58,98 @@ so-far-before x arrival (suc n) h =
     chosen true z = refl
     chosen false z = refl
 
--- the starts of some steps in a row, or their costs, are figures in a row
-module _ (x : List ℤ) (column : Step → ℤ) (a : ℕ) (same : (k : ℕ) → column (step x k) ≡ figure x (a + k)) where
-  every-column : (p : ℤ → Bool) (k n : ℕ)
-      → every (λ s. p (column s)) (map (step x) (count-from k n)) ≡ every (λ j. p (figure x j)) (count-from (a + k) n)
-  every-column p k zero = refl
-  every-column p k (suc n) = rw (same k, every-column p (suc k) n, add-suc a k)
+-- the rule's tests of a step, and of two neighbours
+abbrev later : Step → Step → Bool
+later s t = ltZ (s .start) (t .start)
 
-  neighbours-column : (r : ℤ → ℤ → Bool) (k n : ℕ)
-      → neighbours (λ s s′. r (column s) (column s′)) (map (step x) (count-from k n)) ≡
-      neighbours (λ i j. r (figure x i) (figure x j)) (count-from (a + k) n)
-  neighbours-column r k zero = refl
-  neighbours-column r k (suc zero) = refl
-  neighbours-column r k (suc (suc n)) =
-      rw (same k, same (suc k), add-suc a k)
-      (ap (λ b. r (figure x (a + k)) (figure x (suc (a + k))) && b) (rw (add-suc a k) at (neighbours-column r (suc k) (suc n))))
+abbrev dearer : Step → Step → Bool
+dearer s t = leZ (s .cost) (t .cost)
 
--- figures that rise from 0 are not below it, so that only their upper bound is left to test
-not-below : (z z′ : ℤ) → T (leZ (pos 0) z) → T (ltZ z z′) → T (leZ (pos 0) z′)
-not-below (pos a) (pos b) h t = le→leb 0 b zero-le
-not-below (pos a) (negsuc b) h t = t
-not-below (negsuc a) z′ h t = absurd h
+abbrev early : Step → Bool
+early s = leZ (s .start) (pos 1000000)
 
-module _ (f : ℕ → ℤ) (most : ℤ) where
-  rising-within : (j : ℕ) (ks : List ℕ) → T (leZ (pos 0) (f j)) → T (neighbours (λ j k. ltZ (f j) (f k)) (j ∷ ks))
-      → every (λ k. within (pos 0) most (f k)) (j ∷ ks) ≡ every (λ k. leZ (f k) most) (j ∷ ks)
-  unfolding within
-  rising-within j [] h t = rw (is-true (leZ (pos 0) (f j)) h)
-  rising-within j (k ∷ ks) h t =
-      let s = and-yes (ltZ (f j) (f k)) (neighbours (λ j k. ltZ (f j) (f k)) (k ∷ ks)) t in
-      rw (is-true (leZ (pos 0) (f j)) h) (ap (λ b. leZ (f j) most && b) (rising-within k ks (not-below (f j) (f k) h (s .0)) (s .1)))
+abbrev payable : Step → Bool
+payable s = within (pos 0) (pos 1000000) (s .cost)
 
--- what is the same where two tests pass is the same after them
-after-both : (a b c : Bool) {d e : Bool} → (T b → T c → d ≡ e) → a && b && c && d ≡ a && b && c && e
-after-both true true true h = h tt tt
-after-both true true false h = refl
-after-both true false c h = refl
-after-both false b c h = refl
+abbrev nothing : Step → Bool
+nothing s = is-zero (s .start) && is-zero (s .cost)
 
-starts-within : (x : List ℤ) (n : ℕ) (a : Bool)
-    → a && is-zero (figure x 1) && neighbours (λ j k. ltZ (figure x j) (figure x k)) (count-from 1 n) &&
-    every (λ k. within (pos 0) (pos 1000000) (figure x k)) (count-from 1 n) ≡
-    a && is-zero (figure x 1) && neighbours (λ j k. ltZ (figure x j) (figure x k)) (count-from 1 n) &&
-    every (λ k. leZ (figure x k) (pos 1000000)) (count-from 1 n)
+rises-next : (x : List ℤ) (k : ℕ)
+    → let s = step x k in
+    let t = step x (suc k) in
+    rises x (suc k) ≡ later s t && early t && payable t && dearer s t
+unfolding rises
+rises-next x k =
+    let first : 1 + k ≡ suc k = omega arith in
+    let cost : 9 + k ≡ 8 + suc k = omega arith in
+    rw (first, cost)
+
+-- steps that rise one by one are neighbours that rise, within bounds
+all-rise : (x : List ℤ) (k m : ℕ)
+    → let these = map (step x) (count-from k (suc m)) in
+    let after = map (step x) (count-from (suc k) m) in
+    every (rises x) (count-from (suc k) m) ≡ neighbours later these && every early after && every payable after && neighbours dearer these
+all-rise x k zero = refl
+all-rise x k (suc m) =
+    let s = step x k in
+    let t = step x (suc k) in
+    let these = map (step x) (count-from (suc k) (suc m)) in
+    let after = map (step x) (count-from (suc (suc k)) m) in
+    rw (rises-next x k, all-rise x (suc k) m)
+    (exchange-four (later s t) (early t) (payable t) (dearer s t) (neighbours later these) (every early after) (every payable after) (neighbours dearer these))
+
+starts-early : (z : ℤ) → T (is-zero z) → leZ z (pos 1000000) ≡ true
 unfolding is-zero within
-starts-within x zero a = refl
-starts-within x (suc n) a =
-    after-both a (is-zero (figure x 1)) (neighbours (λ j k. ltZ (figure x j) (figure x k)) (count-from 1 (suc n)))
-    (λ z. rising-within (figure x) (pos 1000000) 1 (count-from 2 n) (and-yes (leZ (pos 0) (figure x 1)) (leZ (figure x 1) (pos 0)) z .0))
+starts-early (pos n) t = le-leb n 1000000 (omega (arith, leb→le n 0 (and-yes (leb 0 n) (leb n 0) t .1)))
+starts-early (negsuc n) t = absurd t
+
+-- the first step's tests, taken together with those of the others
+gathered : (z b₀ l a₀ a b c u : Bool) → (T z → a₀ ≡ true)
+    → z && b₀ && (l && a && b && c && u) ≡ z && l && (a₀ && a) && (b₀ && b) && c && u
+gathered true true l a₀ a b c u h = rw (h tt)
+gathered true false true a₀ true b c u h = rw (h tt)
+gathered true false true a₀ false b c u h = rw (h tt)
+gathered true false false a₀ a b c u h = refl
+gathered false b₀ l a₀ a b c u h = refl
+
+-- below the step count a step rises, from there on it is 0
+used-and-unused : (x : List ℤ) (m : ℕ) → m ≤ 7
+    → every (good-step x (suc m)) (count-from 1 7) ≡
+    every (rises x) (count-from 1 m) && every nothing (map (step x) (count-from (suc m) (8 - suc m)))
+unfolding good-step
+used-and-unused x m h =
+    let whole : m + (7 - m) ≡ 7 = omega arith in
+    let rest : 8 - suc m ≡ 7 - m = omega arith in
+    rw (rest, every-map nothing (step x) (count-from (suc m) (7 - m)))
+    (rw whole at (every-split (rises x) (λ k. nothing (step x k)) (suc m) 1 m (7 - m) (omega arith)))
+
+by-steps : (x : List ℤ) (n : ℕ) (w : Bool) → n ≤ 8 → (T w → 0 < n)
+    → let these = map (step x) (count-from 0 n) in
+    w && is-zero (figure x 1) && within (pos 0) (pos 1000000) (figure x 9) && every (good-step x n) (count-from 1 7) ≡
+    w &&
+    is-zero (figure x 1) &&
+    neighbours later these &&
+    every early these &&
+    every payable these &&
+    neighbours dearer these &&
+    every nothing (map (step x) (count-from n (8 - n)))
+by-steps x n false h k = refl
+by-steps x zero true h k = absurd (omega (arith, k tt))
+by-steps x (suc m) true h k =
+    let these : List Step = map (step x) (count-from 0 (suc m)) in
+    let after : List Step = map (step x) (count-from 1 m) in
+    let z = is-zero (figure x 1) in
+    let b = within (pos 0) (pos 1000000) (figure x 9) in
+    let u = every nothing (map (step x) (count-from (suc m) (8 - suc m))) in
+    ap (λ t. z && b && t) (used-and-unused x m (omega arith) ∙ ap (λ t. t && u) (all-rise x 0 m)) ∙
+    gathered z b (neighbours later these) (leZ (figure x 1) (pos 1000000)) (every early after) (every payable after) (neighbours dearer these) u (starts-early (figure x 1))
 
 pub good-row-tests : (x : List ℤ)
     → within (pos 1) (pos 8) (figure x 0) &&
     within (pos 0) (pos 0) (figure x 1) &&
-    neighbours (λ j k. ltZ (figure x j) (figure x k)) (count-from 1 (many x)) &&
-    every (λ k. within (pos 0) (pos 1000000) (figure x k)) (count-from 1 (many x)) &&
-    every (λ k. within (pos 0) (pos 1000000) (figure x k)) (count-from 9 (many x)) &&
-    neighbours (λ j k. leZ (figure x j) (figure x k)) (count-from 9 (many x)) &&
-    every (λ k. within (pos 0) (pos 0) (figure x k)) (count-from (1 + many x) (8 - many x)) &&
-    every (λ k. within (pos 0) (pos 0) (figure x k)) (count-from (9 + many x) (8 - many x)) ≡ good-row x
+    within (pos 0) (pos 1000000) (figure x 9) &&
+    every (good-step x (many x)) (count-from 1 7) ≡ good-row x
 unfolding good-row is-zero
 good-row-tests x =
-    let start : Step → ℤ = λ s. s .start in
-    let cost : Step → ℤ = λ s. s .cost in
-    rw (
-      used-steps,
-      unused-steps,
-      neighbours-column x start 1 (λ k. refl) ltZ 0 (many x),
-      every-column x start 1 (λ k. refl) (λ z. leZ z (pos 1000000)) 0 (many x),
-      every-column x cost 9 (λ k. refl) (within (pos 0) (pos 1000000)) 0 (many x),
-      neighbours-column x cost 9 (λ k. refl) leZ 0 (many x),
-      every-both (λ s. is-zero (start s)) (λ s. is-zero (cost s)) (map (step x) (count-from (many x) (8 - many x))),
-      every-column x start 1 (λ k. refl) is-zero (many x) (8 - many x),
-      every-column x cost 9 (λ k. refl) is-zero (many x) (8 - many x),
-      ← and-assoc,
-    )
-    (rw (starts-within x (many x) (within (pos 1) (pos 8) (figure x 0))))
+    rw (used-steps, unused-steps)
+    (by-steps x (many x) (within (pos 1) (pos 8) (figure x 0)) (omega arith) (counted-one (figure x 0)))

@@ -1,14 +1,17 @@
--- Laws of `every` and `neighbours` along a stretch, which is some numbers in a row, and of its first numbers and the rest.
--- Laws of `every`, `those` and `last-cost` over what is put together.
-use mathlib.Core.Bool.{Bool, true, false, _&&_}
+-- Laws of `every` along a stretch, which is some numbers in a row, and of its first numbers and the rest.
+-- Laws of `every`, `last-cost` and a stretch over what is put together, and of tests that change places.
+use borrow.Author.Tests.{lt-ltb, le-ltb}
+use mathlib.Core.Bool.{Bool, true, false, cond, _&&_, and-assoc}
 use mathlib.Core.List.{List, [], _∷_, _++_, map}
 use mathlib.Core.Path.{_≡_, refl, ap, _∙_}
 use Prim.Native.Nat.{ℕ, zero, suc, _+_, _-_, _≤_, _<_, min}
+use native.Mathlib.Nat.{zero-add}
 use native.Mathlib.Numerals.{add-one}
 use native.Mathlib.Omega.{arith}
+use lib.Dec.{ltb}
 use lib.IntN.{ℤ}
 use lib.ListN.{take, drop}
-use Rattle.rules.specs.Lists.{every, neighbours, count-from}
+use Rattle.rules.specs.Lists.{every, count-from}
 use Rattle.rules.specs.Figures.{Step, last-cost}
 
 exchange : (a b c d : Bool) → (a && b) && (c && d) ≡ (a && c) && (b && d)
@@ -17,10 +20,14 @@ exchange true false true d = refl
 exchange true false false d = refl
 exchange false b c d = refl
 
-module _ {A : Type 0} where
-  pub every-both : (p q : A → Bool) (xs : List A) → every (λ x. p x && q x) xs ≡ every p xs && every q xs
-  every-both p q [] = refl
-  every-both p q (x ∷ xs) = ap (λ b. p x && q x && b) (every-both p q xs) ∙ exchange (p x) (q x) (every p xs) (every q xs)
+pub exchange-four : (a b c d e f g h : Bool)
+    → (a && b && c && d) && (e && f && g && h) ≡ (a && e) && (b && f) && (c && g) && (d && h)
+exchange-four a b c d e f g h =
+    rw (exchange (a && b && c) d (e && f && g) h, exchange (a && b) c (e && f) g, exchange a b e f)
+
+pub every-map : {A : Type 0} (p : A → Bool) (f : ℕ → A) (ks : List ℕ) → every p (map f ks) ≡ every (λ k. p (f k)) ks
+every-map p f [] = refl
+every-map p f (k ∷ ks) = rw (every-map p f ks)
 
 pub last-cost-append : (c : ℤ) (xs ys : List Step) → last-cost c (xs ++ ys) ≡ last-cost (last-cost c xs) ys
 last-cost-append c [] ys = refl
@@ -37,14 +44,21 @@ count-next {k} {end} h = let e : end - k ≡ suc (end - (k + 1)) = omega arith i
 pub every-next : (p : ℕ → Bool) {k end : ℕ} → k < end → every p (count-from k (end - k)) ≡ p k && every p (count-from (k + 1) (end - (k + 1)))
 every-next p h = rw (count-next h)
 
-pub neighbours-next : (r : ℕ → ℕ → Bool) (k : ℕ) {end : ℕ} → k + 1 < end
-    → neighbours r (count-from k (end - k)) ≡ r k (k + 1) && neighbours r (count-from (k + 1) (end - (k + 1)))
-neighbours-next r k {end} h = let l : k < end = omega arith in rw (count-next l, count-next h)
+-- a test by two others, the one below n and the other from n on
+module _ (p q : ℕ → Bool) (n : ℕ) where
+  abbrev below : ℕ → Bool
+  below k = cond (ltb k n) (p k) (q k)
 
-pub neighbours-few : (r : ℕ → ℕ → Bool) (k n : ℕ) → n ≤ 1 → neighbours r (count-from k n) ≡ true
-neighbours-few r k zero h = refl
-neighbours-few r k (suc zero) h = refl
-neighbours-few r k (suc (suc n)) h = absurd (omega arith)
+  every-after : (k j : ℕ) → n ≤ k → every below (count-from k j) ≡ every q (count-from k j)
+  every-after k zero h = refl
+  every-after k (suc j) h = rw (le-ltb k n h, every-after (suc k) j (omega arith))
+
+  pub every-split : (k i j : ℕ) → k + i ≡ n → every below (count-from k (i + j)) ≡ every p (count-from k i) && every q (count-from n j)
+  every-split k zero j e = let here : k ≡ n = omega arith in rw (zero-add j, here) (every-after n j (omega arith))
+  every-split k (suc i) j e =
+      let longer : suc i + j ≡ suc (i + j) = omega arith in
+      let l : k < n = omega arith in
+      rw (longer, lt-ltb k n l, every-split (suc k) i j (omega arith), and-assoc)
 
 module _ {A : Type 0} (f : ℕ → A) where
   pub take-count : (k n m : ℕ) → take m (map f (count-from k n)) ≡ map f (count-from k (min m n))

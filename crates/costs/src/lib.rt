@@ -1,15 +1,15 @@
 // The objectives' table as code: numbers a train, most trains a station, list order kept or not, the rule of a good train, its cost, and how costs join.
 // Figures are a train's numbers in its list. Every public function is a column of the rules' table.
 ghost use mathlib.Core.Path.{_≡_};
-ghost use Prim.Native.Nat.{_+_, _≤_, min};
+ghost use Prim.Native.Nat.{_<_, min};
 ghost use lib.IntN.{pos, natAbs};
 ghost use lib.Signed.{leZ};
 ghost use mir.Syntax.{w64};
 ghost use mir.Val.{SFits};
-ghost use Rattle.rules.specs.Lists.{every, neighbours, count-from};
+ghost use Rattle.rules.specs.Lists.{every, count-from};
 ghost use Rattle.rules.specs.Figures.{figure, within, good-row, row-cost};
 ghost use Rattle.rules.specs.Objectives.{aim-of, larger};
-ghost use Rattle.costs.specs.Rises.{rises};
+ghost use Rattle.costs.specs.Steps.{good-step};
 
 // Whether trains of one station leave in list order, as those with rows do.
 pub fn listed(objective: u32) -> bool
@@ -59,57 +59,44 @@ fn steps_used(count: i32) -> usize
     8
 }
 
-// Whether so many figures from a place on are all within two bounds.
-fn all_within(x: &[i32], from: usize, n: usize, least: i32, most: i32) -> bool
-    requires { ⌜ from + n ≤ 17 ⌝ }
-    ensures { λ r. ⌜ r ≡ every (λ k. within least most (figure (now (x .entry)) k)) (count-from from n) ⌝ }
+// Whether the step after k others keeps the rule: a used one rises from the one before, any other is 0.
+fn good_step(x: &[i32], used: usize, k: usize) -> bool
+    requires { ⌜ k < 8 ⌝ }
+    ensures { λ r. ⌜ r ≡ good-step (now (x .entry)) used k ⌝ }
 {
-    let end = from + n;
-    for k in from..end {
-        if !within(least, most, figure(x, k)) {
+    let start = figure(x, 1 + k);
+    let cost = figure(x, 9 + k);
+    if k < used {
+        (figure(x, k) < start)
+            & (start <= 1000000)
+            & within(0, 1000000, cost)
+            & (figure(x, 8 + k) <= cost)
+    } else {
+        within(0, 0, start) & within(0, 0, cost)
+    }
+}
+
+// Whether the seven steps after the first keep the rule.
+fn good_steps(x: &[i32], used: usize) -> bool
+    ensures { λ r. ⌜ r ≡ every (good-step (now (x .entry)) used) (count-from 1 7) ⌝ }
+{
+    for k in 1..8 {
+        if !good_step(x, used, k) {
             return false;
         }
     }
     true
 }
 
-// Of two figures in a row, whether the second is above the first, or only not below it.
-fn rises(strictly: bool, a: i32, b: i32) -> bool
-    ensures { λ r. ⌜ r ≡ rises strictly a b ⌝ }
-{
-    if strictly { a < b } else { a <= b }
-}
-
-// Whether so many figures from a place on rise.
-fn rising(x: &[i32], from: usize, n: usize, strictly: bool) -> bool
-    requires { ⌜ from + n ≤ 17 ⌝ }
-    ensures { λ r. ⌜ r ≡ neighbours (λ j k. rises strictly (figure (now (x .entry)) j) (figure (now (x .entry)) k)) (count-from from n) ⌝ }
-{
-    let end = from + n;
-    let mut k = from;
-    while k + 1 < end {
-        if !rises(strictly, figure(x, k), figure(x, k + 1)) {
-            return false;
-        }
-        k += 1;
-    }
-    true
-}
-
-// The rule of a row: its step count, its starts and costs, and that what is not used is 0.
+// The rule of a row: its step count, its first step, which starts at 0, and the others.
 fn good_row(x: &[i32]) -> bool
     ensures { λ r. ⌜ r ≡ good-row (now (x .entry)) ⌝ }
 {
     let count = figure(x, 0);
-    let used = steps_used(count);
     within(1, 8, count)
         & within(0, 0, figure(x, 1))
-        & rising(x, 1, used, true)
-        & all_within(x, 1, used, 0, 1000000)
-        & all_within(x, 9, used, 0, 1000000)
-        & rising(x, 9, used, false)
-        & all_within(x, 1 + used, 8 - used, 0, 0)
-        & all_within(x, 9 + used, 8 - used, 0, 0)
+        & within(0, 1000000, figure(x, 9))
+        & good_steps(x, steps_used(count))
 }
 
 // Whether a train's figures keep their rule.
