@@ -1,6 +1,7 @@
 -- What a linked program is told: a verdict as four numbers, and bytes written over the start of a lent buffer.
 -- A place that a verdict does not speak of is 0.
 use mathlib.Core.List.{List, _++_}
+use mathlib.Core.Path.{_≡_}
 use Prim.Native.Nat.{ℕ}
 use lib.IntN.{ℤ, pos}
 use lib.ListN.{length, take, drop}
@@ -21,6 +22,10 @@ pub record Told : Type 0 where
 abbrev pub told : Verdict → Told
 told (value-is v) = record { number = 0; value = v; first = 0; second = 0 }
 told (refused n first second) = record { number = n; value = pos 0; first = first; second = second }
+
+-- the numbers that a call leaves tell a verdict
+abbrev pub Tells : ℕ → ℤ → ℕ → ℕ → Verdict → Type 0
+Tells n v first second verdict = record { number = n; value = v; first = first; second = second } ≡ told verdict
 
 -- as many of the bytes as the buffer holds, then what stood there
 unfoldable pub over : List ℕ → List ℕ → List ℕ

@@ -9,7 +9,7 @@ ghost use Prim.Native.Nat.{_≤_};
 ghost use lib.ListN.{length};
 ghost use Rattle.rules.specs.Answers.{says, planner-answers, planner-leaves, judge-answers};
 ghost use Rattle.section_file.specs.Answer.{answer};
-ghost use Rattle.exports.specs.Told.{called, over, told};
+ghost use Rattle.exports.specs.Told.{called, over, Tells};
 
 // The smaller of two lengths.
 fn smaller(a: usize, b: usize) -> usize
@@ -30,7 +30,7 @@ fn copy_over(bytes: &[u8], out: &mut [u8])
 
 // Writes an answer's value and places, and gives its refusal number.
 fn tell(answer: Answer, value: &mut i64, first: &mut u32, second: &mut u32) -> u32
-    ensures { λ r. ⌜ record { number = r; value = now (value .exit); first = now (first .exit); second = now (second .exit) } ≡ told (says answer) ⌝ }
+    ensures { λ r. ⌜ Tells r (now (value .exit)) (now (first .exit)) (now (second .exit)) (says answer) ⌝ }
 {
     let outcome = answer.outcome;
     match outcome {
@@ -79,7 +79,7 @@ pub extern "C" fn pulpmitten_plan(
     first: &mut u32,
     second: &mut u32,
 ) -> u32
-    ensures { λ r. ⌜ record { number = r; value = now (value .exit); first = now (first .exit); second = now (second .exit) } ≡ told (planner-answers (called objective running headway (now (one .entry)) (now (two .entry))) (length (now (departures .entry)))) ⌝ }
+    ensures { λ r. ⌜ Tells r (now (value .exit)) (now (first .exit)) (now (second .exit)) (planner-answers (called objective running headway (now (one .entry)) (now (two .entry))) (length (now (departures .entry)))) ⌝ }
     ensures { λ _. ⌜ now (departures .exit) ≡ planner-leaves (called objective running headway (now (one .entry)) (now (two .entry))) (now (departures .entry)) ⌝ }
 {
     let timing = Timing { running, headway };
@@ -100,7 +100,7 @@ pub extern "C" fn pulpmitten_judge(
     first: &mut u32,
     second: &mut u32,
 ) -> u32
-    ensures { λ r. ⌜ record { number = r; value = now (value .exit); first = now (first .exit); second = now (second .exit) } ≡ told (judge-answers (called objective running headway (now (one .entry)) (now (two .entry))) (now (departures .entry))) ⌝ }
+    ensures { λ r. ⌜ Tells r (now (value .exit)) (now (first .exit)) (now (second .exit)) (judge-answers (called objective running headway (now (one .entry)) (now (two .entry))) (now (departures .entry))) ⌝ }
 {
     let timing = Timing { running, headway };
     let answer = judge::judge(objective, timing, one, two, departures);

@@ -5,7 +5,7 @@ use mathlib.Core.List.{List, [], _∷_}
 use Prim.Native.Nat.{ℕ}
 use lib.Dec.{leb}
 use lib.ListN.{length}
-use Rattle.rules.specs.Trains.{count}
+use Rattle.rules.specs.Trains.{Section, count}
 use Rattle.rules.specs.Orders.{plan}
 use Rattle.rules.specs.Answers.{planner-answers, judge-answers}
 use Rattle.text.specs.Numbers.{Numbers, all, unreadable as no-numbers, numbers}
@@ -20,9 +20,16 @@ file-of no-numbers = unreadable
 unfoldable pub read : List ℕ → File
 read text = cond (leb (length text) 16384) (file-of (numbers text)) unreadable
 
+-- the lines of a section's plan, and of its recorded departures
+abbrev pub plan-lines : Section → List ℕ
+plan-lines S = printed planned S (planner-answers S (count S)) (plan S)
+
+abbrev pub judge-lines : Section → List ℕ → List ℕ
+judge-lines S departures = printed judged S (judge-answers S departures) departures
+
 abbrev pub answered : File → List ℕ
-answered (file S []) = printed planned S (planner-answers S (count S)) (plan S)
-answered (file S (d ∷ ds)) = printed judged S (judge-answers S (d ∷ ds)) (d ∷ ds)
+answered (file S []) = plan-lines S
+answered (file S (d ∷ ds)) = judge-lines S (d ∷ ds)
 answered unreadable = line (unreadable-word ∷ [])
 
 unfoldable pub answer : List ℕ → List ℕ

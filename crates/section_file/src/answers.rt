@@ -7,9 +7,7 @@ ghost use Prim.Native.Nat.{_≤_};
 ghost use lib.Dec.{leb};
 ghost use lib.ListN.{length};
 ghost use Rattle.rules.specs.Trains.{asked, count};
-ghost use Rattle.rules.specs.Orders.{plan};
-ghost use Rattle.rules.specs.Answers.{planner-answers, judge-answers};
-ghost use Rattle.section_file.specs.Lines.{planned, judged, printed};
+ghost use Rattle.section_file.specs.Answer.{plan-lines, judge-lines};
 ghost use Rattle.section_file.specs.Page.{Put};
 ghost use Rattle.section_file.specs.Sized.{Sized};
 
@@ -32,7 +30,7 @@ fn put_planned(
 ) -> usize
     requires { ⌜ length (now page) ≡ 8192 ⌝ }
     requires { ⌜ length (now departures) ≡ count (asked objective timing (now one) (now two)) ⌝ }
-    ensures { λ r. ⌜ Put (now (page .entry)) 0 (printed planned (asked objective timing (now (one .entry)) (now (two .entry))) (planner-answers (asked objective timing (now (one .entry)) (now (two .entry))) (count (asked objective timing (now (one .entry)) (now (two .entry))))) (plan (asked objective timing (now (one .entry)) (now (two .entry))))) (now (page .exit)) r ⌝ }
+    ensures { λ r. ⌜ Put (now (page .entry)) 0 (plan-lines (asked objective timing (now (one .entry)) (now (two .entry)))) (now (page .exit)) r ⌝ }
 {
     let ones = one.len() / costs::numbers(objective);
     let answer = planner::plan(objective, timing, one, two, departures);
@@ -49,7 +47,7 @@ pub fn put_plan(
     two: &[i32],
 ) -> usize
     requires { ⌜ Sized (now page) (now one) (now two) ⌝ }
-    ensures { λ r. ⌜ Put (now (page .entry)) 0 (printed planned (asked objective timing (now (one .entry)) (now (two .entry))) (planner-answers (asked objective timing (now (one .entry)) (now (two .entry))) (count (asked objective timing (now (one .entry)) (now (two .entry))))) (plan (asked objective timing (now (one .entry)) (now (two .entry))))) (now (page .exit)) r ⌝ }
+    ensures { λ r. ⌜ Put (now (page .entry)) 0 (plan-lines (asked objective timing (now (one .entry)) (now (two .entry)))) (now (page .exit)) r ⌝ }
 {
     let numbers = costs::numbers(objective);
     let count = one.len() / numbers + two.len() / numbers;
@@ -67,7 +65,7 @@ pub fn put_judgement(
     departures: &[u32],
 ) -> usize
     requires { ⌜ length (now page) ≡ 8192 ⌝ }
-    ensures { λ r. ⌜ Put (now (page .entry)) 0 (printed judged (asked objective timing (now (one .entry)) (now (two .entry))) (judge-answers (asked objective timing (now (one .entry)) (now (two .entry))) (now (departures .entry))) (now (departures .entry))) (now (page .exit)) r ⌝ }
+    ensures { λ r. ⌜ Put (now (page .entry)) 0 (judge-lines (asked objective timing (now (one .entry)) (now (two .entry))) (now (departures .entry))) (now (page .exit)) r ⌝ }
 {
     let ones = one.len() / costs::numbers(objective);
     let answer = judge::judge(objective, timing, one, two, departures);
