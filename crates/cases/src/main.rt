@@ -7,15 +7,21 @@ mod page;
 
 fn main() {
     page::steps();
+    page::broken_rows();
     page::timings();
-    page::weights_and_due_times();
+    page::weights();
+    page::due_times();
     page::recorded();
     page::refused_lists();
     largest::stations();
     largest::sections();
     largest::texts();
     grammar::space();
+    grammar::other_bytes();
+    grammar::nothing();
     grammar::numbers();
+    grammar::sizes();
     grammar::minus();
+    grammar::minus_elsewhere();
     grammar::sections();
 }

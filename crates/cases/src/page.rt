@@ -1,7 +1,7 @@
 // The cases that the page names beside A to M, with their neighbours at each bound. p = 10 and β = 2 unless said.
 use crate::draft::show;
 
-// Rows: the arrival at the very second of a step, and the largest cost in place of the sum.
+// Rows: the arrival at the very second of a step, the largest cost in place of the sum, and list order.
 pub fn steps() {
     show(
         b"I, the second start 20",
@@ -23,6 +23,10 @@ pub fn steps() {
         b"two one-step trains recorded 0, 2",
         b"3 3 10 2\n34 1 0 0 0 0 0 0 0 0 7 0 0 0 0 0 0 0 1 0 0 0 0 0 0 0 0 5 0 0 0 0 0 0 0\n0\n2 0 2\n",
     );
+}
+
+// Rows that break their rule.
+pub fn broken_rows() {
     show(
         b"a first start of 1",
         b"3 3 10 2\n17 1 1 0 0 0 0 0 0 0 0 0 0 0 0 0 0 0\n0\n0\n",
@@ -47,8 +51,8 @@ pub fn timings() {
     show(b"p = 10001", b"3 2 10001 2\n1 1\n1 1\n0\n");
 }
 
-// The bounds of a train's number under objectives 1 and 2.
-pub fn weights_and_due_times() {
+// The bounds of a weight.
+pub fn weights() {
     show(b"weight 10000", b"3 2 10 2\n1 10000\n0\n0\n");
     show(b"weight 10001", b"3 2 10 2\n1 10001\n0\n0\n");
     show(
@@ -56,6 +60,10 @@ pub fn weights_and_due_times() {
         b"3 2 10 2\n2 0 10000\n1 10001\n0\n",
     );
     show(b"weight -1", b"3 2 10 2\n1 -1\n0\n0\n");
+}
+
+// The bounds of a due time.
+pub fn due_times() {
     show(b"due time 1000000", b"3 1 10 2\n0\n1 1000000\n0\n");
     show(b"due time 1000001", b"3 1 10 2\n0\n1 1000001\n0\n");
     show(b"due time -1000000", b"3 1 10 2\n1 -1000000\n0\n0\n");
