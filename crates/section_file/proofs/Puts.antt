@@ -1,9 +1,9 @@
 -- What is put onto a page piece by piece is put as one.
+use mathlib.Core.Bool.{cond}
 use mathlib.Core.List.{List, [], _∷_, _++_, append-assoc, append-nil}
 use mathlib.Core.Path.{_≡_, sym, _∙_, ap}
 use Prim.Native.Nat.{ℕ, _+_, _-_, _≤_, _<_, _^_}
 use native.Mathlib.Omega.{arith}
-use borrow.Author.Tests.{lt-ltb, le-ltb}
 use lib.Dec.{ltb}
 use lib.IntN.{ℤ, pos}
 use lib.ListN.{length, take, length-append}
@@ -28,8 +28,8 @@ put-on {page = page} {at = at} {bytes = bytes} {more = more} p q =
     }
 
 -- a number takes at most 20 bytes, and one after a space 21
-pub number-room : {page page′ : List ℕ} {at r : ℕ} (z : ℤ) → SFits w64 z → Put page at (signed z) page′ r → r ≤ at + 20
-number-room z fits p = omega (arith, p .ends, signed-length z fits)
+pub number-room : {page page′ : List ℕ} {at r n : ℕ} → n < 2 ^ 63 → Put page at (signed (toZ w64 n)) page′ r → r ≤ at + 20
+number-room {n = n} h p = omega (arith, rw (toZ-pos w64 {n = n} h) at (p .ends), signed-length (pos n) (record { sfits = h }))
 
 pub field-room : {page page′ : List ℕ} {at r : ℕ} (z : ℤ) → SFits w64 z → Put page at (32 ∷ signed z) page′ r → r ≤ at + 21
 field-room z fits p = omega (arith, p .ends, signed-length z fits)
@@ -53,25 +53,24 @@ pub three-words : {page page′ : List ℕ} {at r : ℕ} {a b c : ℕ} → a < 2
 three-words {a = a} {b = b} {c = c} h i j p =
     rw (toZ-pos w64 {n = a} (omega arith), toZ-pos w64 {n = b} (omega arith), toZ-pos w64 {n = c} (omega arith)) at p
 
+-- a train's station and place are small numbers
+pub station-small : (ones k : ℕ) → cond (ltb k ones) 1 2 < 2 ^ 63
+station-small ones k = cond-ind (λ n. n < 2 ^ 63) (ltb k ones) (λ _. omega arith) (λ _. omega arith)
+
+pub place-small : (ones k : ℕ) → k ≤ 96 → cond (ltb k ones) k (k - ones) < 2 ^ 63
+place-small ones k few = cond-ind (λ n. n < 2 ^ 63) (ltb k ones) (λ _. omega arith) (λ _. omega arith)
+
 -- a train's line: its station's number, then the other three
 module _ (t : Timing) (ones k departure : ℕ) (few : k ≤ 96) (d-fits : departure < 2 ^ 32) (p-fits : t .running < 2 ^ 32) where
-  abbrev three : ℕ → List ℕ
-  three place = 32 ∷ line (signed (toZ w64 place) ∷ signed (toZ w64 departure) ∷ signed (toZ w64 (departure + t .running)) ∷ [])
-
-  pub first-line : {page page′ page″ : List ℕ} {at r r′ : ℕ} → k < ones → Put page at (signed (pos 1)) page′ r → Put page′ r (three k) page″ r′
+  pub train-line : {page page′ page″ : List ℕ} {at r r′ : ℕ} {station place : ℕ} → station ≡ cond (ltb k ones) 1 2 → place ≡ cond (ltb k ones) k (k - ones)
+      → Put page at (signed (toZ w64 station)) page′ r
+      → Put page′ r (32 ∷ line (signed (toZ w64 place) ∷ signed (toZ w64 departure) ∷ signed (toZ w64 (departure + t .running)) ∷ [])) page″ r′
       → Put page at (kth-line t ones k departure) page″ r′
   unfolding kth-line
-  first-line h p q =
-      rw (lt-ltb k ones h) (put-on p (rw (toZ-pos w64 {n = k} (omega arith), toZ-pos w64 {n = departure} (omega arith), toZ-pos w64 {n = departure + t .running} (omega arith)) at q))
-
-  pub second-line : {page page′ page″ : List ℕ} {at r r′ : ℕ} → ones ≤ k → Put page at (signed (pos 2)) page′ r → Put page′ r (three (k - ones)) page″ r′
-      → Put page at (kth-line t ones k departure) page″ r′
-  unfolding kth-line
-  second-line h p q =
-      rw (le-ltb k ones h) (put-on p (rw (toZ-pos w64 {n = k - ones} (omega arith), toZ-pos w64 {n = departure} (omega arith), toZ-pos w64 {n = departure + t .running} (omega arith)) at q))
+  train-line e f p q =
+      put-on (rw (e, toZ-pos w64 (station-small ones k)) at p)
+      (rw (f, toZ-pos w64 (place-small ones k few), toZ-pos w64 {n = departure} (omega arith), toZ-pos w64 {n = departure + t .running} (omega arith)) at q)
 
   pub line-room : length (kth-line t ones k departure) ≤ 84
   unfolding kth-line
-  line-room =
-      four (cond-ind (λ n. n < 2 ^ 63) (ltb k ones) (λ _. omega arith) (λ _. omega arith))
-      (cond-ind (λ n. n < 2 ^ 63) (ltb k ones) (λ _. omega arith) (λ _. omega arith)) (omega arith) (omega arith)
+  line-room = four (station-small ones k) (place-small ones k few) (omega arith) (omega arith)

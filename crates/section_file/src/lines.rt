@@ -3,10 +3,11 @@ use crate::page;
 use rules::Answer;
 use rules::Outcome;
 use rules::Timing;
-ghost use mathlib.Core.List.{[], _∷_, _++_};
+ghost use mathlib.Core.Bool.{cond};
+ghost use mathlib.Core.List.{[], _∷_};
 ghost use mathlib.Core.Path.{_≡_};
-ghost use Prim.Native.Nat.{_+_, _*_, _≤_};
-ghost use lib.IntN.{pos};
+ghost use Prim.Native.Nat.{_+_, _-_, _*_, _≤_};
+ghost use lib.Dec.{ltb};
 ghost use lib.ListN.{length};
 ghost use Rattle.rules.specs.Answers.{value-is, refused, says};
 ghost use Rattle.text.specs.Written.{signed};
@@ -36,6 +37,20 @@ fn put_three(page: &mut [u8; 8192], at: usize, a: i64, b: i64, c: i64) -> usize
     page::put(page, third, b"\n")
 }
 
+// The number of the station of train k, where station 1 has `ones` trains.
+fn station_number(ones: usize, k: usize) -> u32
+    ensures { λ r. ⌜ r ≡ cond (ltb k ones) 1 2 ⌝ }
+{
+    if k < ones { 1 } else { 2 }
+}
+
+// The place of train k in its station's list.
+fn place_of(ones: usize, k: usize) -> usize
+    ensures { λ r. ⌜ r ≡ cond (ltb k ones) k (k - ones) ⌝ }
+{
+    if k < ones { k } else { k - ones }
+}
+
 // Puts the line of the train with number k. Station 1 has `ones` trains.
 fn put_train(
     page: &mut [u8; 8192],
@@ -50,12 +65,10 @@ fn put_train(
     ensures { λ r. ⌜ Put (now (page .entry)) at (kth-line timing ones k departure) (now (page .exit)) r ⌝ }
 {
     let arrival = (departure as u64 + timing.running as u64) as i64;
-    if k < ones {
-        let after = page::put_number(page, at, 1);
-        return put_three(page, after, k as i64, departure as i64, arrival);
-    }
-    let after = page::put_number(page, at, 2);
-    put_three(page, after, (k - ones) as i64, departure as i64, arrival)
+    let station = station_number(ones, k) as i64;
+    let place = place_of(ones, k) as i64;
+    let after = page::put_number(page, at, station);
+    put_three(page, after, place, departure as i64, arrival)
 }
 
 // Puts a line for each train.
