@@ -32,7 +32,7 @@ fn cost_of(
     requires { ⌜ Runs (asked objective timing (now one) (now two)) n k departure ⌝ }
     ensures { λ r. ⌜ r ≡ cost-of (asked objective timing (now (one .entry)) (now (two .entry))) (run-of (asked objective timing (now (one .entry)) (now (two .entry))) k departure) ⌝ }
 {
-    let arrival = line::arrival(timing, k < n, departure);
+    let arrival = line::arrival(timing, k < n, departure) as u32;
     if k < n {
         return cost_in(objective, one, k, arrival);
     }

@@ -2,7 +2,7 @@
 // A station is told by whether it is station 1.
 use rules::Timing;
 ghost use mathlib.Core.Path.{_≡_};
-ghost use Prim.Native.Nat.{_+_, _-_, _<_, _^_};
+ghost use Prim.Native.Nat.{_+_, _-_};
 ghost use Rattle.rules.specs.Line.{gap as gap-of, arrival as arrival-at, apart as apart-of, same-station};
 ghost use Rattle.line.specs.Station.{station};
 
@@ -33,11 +33,10 @@ pub fn gap(timing: Timing, from_one: bool, next_one: bool) -> u32
 }
 
 // The second at which a train arrives that leaves at a departure.
-pub fn arrival(timing: Timing, from_one: bool, departure: u32) -> u32
-    requires { ⌜ arrival-at timing (station «from_one») departure < 2 ^ 32 ⌝ }
+pub fn arrival(timing: Timing, from_one: bool, departure: u32) -> u64
     ensures { λ r. ⌜ r ≡ arrival-at timing (station «from_one») departure ⌝ }
 {
-    departure + timing.running
+    departure as u64 + timing.running as u64
 }
 
 // Seconds between two departures, whichever is first.

@@ -71,7 +71,7 @@ impl Clock {
     {
         let timing = terms.timing;
         let departure = self.departs(timing, one);
-        let arrival = line::arrival(timing, one, departure);
+        let arrival = line::arrival(timing, one, departure) as u32;
         Clock {
             begun: true,
             one,

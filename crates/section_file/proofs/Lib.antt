@@ -5,3 +5,4 @@ pub mod Trains
 pub mod TrainLines
 pub mod Outcomes
 pub mod Files
+pub mod Unique

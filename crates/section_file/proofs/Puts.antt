@@ -11,7 +11,9 @@ use mir.Syntax.{w64}
 use mir.Val.{SFits, toZ}
 use mir.Facts.{toZ-pos}
 use Rattle.rules.specs.declared.Timing.{Timing}
+use Rattle.rules.specs.Line.{running, arrival}
 use Rattle.theory.proofs.Choices.{cond-ind}
+use Rattle.line.specs.Station.{station}
 use Rattle.text.specs.Written.{signed}
 use Rattle.text.proofs.Decimal.{signed-length}
 use Rattle.section_file.specs.Lines.{line}
@@ -62,15 +64,20 @@ place-small ones k few = cond-ind (λ n. n < 2 ^ 63) (ltb k ones) (λ _. omega a
 
 -- a train's line: its station's number, then the other three
 module _ (t : Timing) (ones k departure : ℕ) (few : k ≤ 96) (d-fits : departure < 2 ^ 32) (p-fits : t .running < 2 ^ 32) where
-  pub train-line : {page page′ page″ : List ℕ} {at r r′ : ℕ} {station place : ℕ} → station ≡ cond (ltb k ones) 1 2 → place ≡ cond (ltb k ones) k (k - ones)
-      → Put page at (signed (toZ w64 station)) page′ r
-      → Put page′ r (32 ∷ line (signed (toZ w64 place) ∷ signed (toZ w64 departure) ∷ signed (toZ w64 (departure + t .running)) ∷ [])) page″ r′
+  pub arrival-small : arrival t (station (ltb k ones)) departure < 2 ^ 63
+  unfolding arrival running
+  arrival-small = omega arith
+
+  pub train-line : {page page′ page″ : List ℕ} {at r r′ : ℕ} {number place arrives : ℕ} → number ≡ cond (ltb k ones) 1 2 → place ≡ cond (ltb k ones) k (k - ones)
+      → arrives ≡ arrival t (station (ltb k ones)) departure
+      → Put page at (signed (toZ w64 number)) page′ r
+      → Put page′ r (32 ∷ line (signed (toZ w64 place) ∷ signed (toZ w64 departure) ∷ signed (toZ w64 arrives) ∷ [])) page″ r′
       → Put page at (kth-line t ones k departure) page″ r′
   unfolding kth-line
-  train-line e f p q =
+  train-line e f g p q =
       put-on (rw (e, toZ-pos w64 (station-small ones k)) at p)
-      (rw (f, toZ-pos w64 (place-small ones k few), toZ-pos w64 {n = departure} (omega arith), toZ-pos w64 {n = departure + t .running} (omega arith)) at q)
+      (rw (f, g, toZ-pos w64 (place-small ones k few), toZ-pos w64 {n = departure} (omega arith), toZ-pos w64 arrival-small) at q)
 
   pub line-room : length (kth-line t ones k departure) ≤ 84
   unfolding kth-line
-  line-room = four (station-small ones k) (place-small ones k few) (omega arith) (omega arith)
+  line-room = four (station-small ones k) (place-small ones k few) (omega arith) arrival-small

@@ -2,13 +2,15 @@
 -- proofs/ shows that they are the lines of the section's trains.
 use mathlib.Core.Bool.{cond}
 use mathlib.Core.List.{List, [], _∷_, _++_, map}
-use Prim.Native.Nat.{ℕ, _+_, _-_}
+use Prim.Native.Nat.{ℕ, _-_}
 use lib.Dec.{ltb}
 use lib.IntN.{pos}
 use lib.ListN.{length, getD}
 use Rattle.rules.specs.declared.Timing.{Timing}
 use Rattle.rules.specs.Lists.{count-from}
+use Rattle.rules.specs.Line.{arrival}
 use Rattle.rules.specs.Answers.{Verdict, value-is, refused}
+use Rattle.line.specs.Station.{station}
 use Rattle.text.specs.Written.{signed}
 use Rattle.section_file.specs.Lines.{refused-word, line, all-lines}
 
@@ -19,7 +21,7 @@ kth-line t ones k departure =
     (signed (pos (cond (ltb k ones) 1 2))
     ∷ signed (pos (cond (ltb k ones) k (k - ones)))
     ∷ signed (pos departure)
-    ∷ signed (pos (departure + t .running)) ∷ [])
+    ∷ signed (pos (arrival t (station (ltb k ones)) departure)) ∷ [])
 
 unfoldable pub lines-of : Timing → ℕ → List ℕ → List ℕ
 lines-of t ones departures = all-lines (map (λ k. kth-line t ones k (getD departures k 0)) (count-from 0 (length departures)))

@@ -1,5 +1,5 @@
--- A call whose lists are those of a section file: of at most 512 numbers each.
--- Of its trains at most 96 are printed, since no section with more is accepted.
+-- A page of its full size, and two lists as a section file has them.
+-- The calls that put a plan or a judgement onto the page ask for this.
 use mathlib.Core.List.{List}
 use mathlib.Core.Path.{_≡_}
 use Prim.Native.Nat.{ℕ, _≤_}

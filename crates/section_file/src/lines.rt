@@ -64,7 +64,7 @@ fn put_train(
     requires { ⌜ (at + 84 ≤ 8192) × (k ≤ 96) ⌝ }
     ensures { λ r. ⌜ Put (now (page .entry)) at (kth-line timing ones k departure) (now (page .exit)) r ⌝ }
 {
-    let arrival = (departure as u64 + timing.running as u64) as i64;
+    let arrival = line::arrival(timing, k < ones, departure) as i64;
     let station = station_number(ones, k) as i64;
     let place = place_of(ones, k) as i64;
     let after = page::put_number(page, at, station);

@@ -1,11 +1,13 @@
--- The sum is the rules' arrival, which fits.
+-- The sum is the rules' arrival.
 use borrow.Author.Needs.{needs}
 use Rattle.rules.specs.Line.{running, arrival}
 use Rattle.line.proofs.arrival.Statement.{statement}
 use Rattle.line.proofs.arrival.Tie as tie
 
+cast-result : tie.Need-cast-result
+cast-result c = search needs
+
 add-result : tie.Need-add-result
-unfolding arrival running
 add-result c = search needs
 
 returns : tie.Need-returns
@@ -13,4 +15,4 @@ unfolding arrival running
 returns c = search needs
 
 pub arrival-spec : {M : Type 1} → statement M
-arrival-spec = tie.close (tie.spec add-result returns)
+arrival-spec = tie.close (tie.spec cast-result add-result returns)

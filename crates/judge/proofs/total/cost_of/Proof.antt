@@ -13,6 +13,9 @@ asks c = asked (c .args .objective) (c .args .timing) (c .args .one .now) (c .ar
 arrival-requires : tie.Need-arrival-requires
 arrival-requires c κs = search needs
 
+cast-arrival : tie.Need-cast-arrival
+cast-arrival c = record { fits = rw (c .arrival .ensures) (c .before .pre .arrives) }
+
 cost-in-requires : tie.Need-cost-in-requires
 unfolding aim
 cost-in-requires c κs =
@@ -41,4 +44,4 @@ returns-2 c =
 
 pub cost-of-spec : {M : Type 1} → statement M
 cost-of-spec =
-    tie.close (tie.spec arrival-requires cost-in-requires returns cost-in-requires-2 returns-2)
+    tie.close (tie.spec arrival-requires cast-arrival cost-in-requires returns cost-in-requires-2 returns-2)

@@ -2,18 +2,20 @@
 use borrow.Author.Needs.{needs}
 use native.Mathlib.Omega.{arith}
 use Prim.Native.Nat.{_<_, _^_}
-use Rattle.section_file.proofs.Puts.{number-room, place-small, train-line}
+use Rattle.section_file.proofs.Puts.{number-room, place-small, arrival-small, train-line}
 use Rattle.section_file.proofs.lines.put_train.Statement.{statement}
 use Rattle.section_file.proofs.lines.put_train.Tie as tie
 
+running-fits : (s : tie.Start) → s .args .timing .running < 2 ^ 32
+running-fits s = search needs
+
+arrival-requires : tie.Need-arrival-requires
+arrival-requires c κs = search needs
+
 cast-arrival : tie.Need-cast-arrival
-cast-arrival c = search needs
-
-add-arrival : tie.Need-add-arrival
-add-arrival c = search needs
-
-cast-arrival-2 : tie.Need-cast-arrival-2
-cast-arrival-2 c = search needs
+cast-arrival c =
+    let s = c .before in
+    record { sfits = rw (c .arrival .ensures) (arrival-small _ _ _ _ (s .pre .1 .1) (s .fits .departure .fits) (running-fits s)) }
 
 station-number-requires : tie.Need-station-number-requires
 station-number-requires c κs = search needs
@@ -44,17 +46,16 @@ put-three-requires c κs =
 returns : tie.Need-returns
 returns c =
     let placed = c .before .before .before .before in
-    let s = placed .before .before .before in
-    let p : s .args .timing .running < 2 ^ 32 = search needs in
-    train-line _ _ _ _ (s .pre .1 .1) (s .fits .departure .fits) p (placed .before .station-number .ensures) (placed .place-of .ensures) (c .before .before .put-number .ensures) (c .put-three .ensures)
+    let sent = placed .before .before in
+    let s = sent .before in
+    train-line _ _ _ _ (s .pre .1 .1) (s .fits .departure .fits) (running-fits s) (placed .before .station-number .ensures) (placed .place-of .ensures) (sent .arrival .ensures) (c .before .before .put-number .ensures) (c .put-three .ensures)
 
 pub put-train-spec : {M : Type 1} → statement M
 put-train-spec =
     tie.close
     (tie.spec
+    arrival-requires
     cast-arrival
-    add-arrival
-    cast-arrival-2
     station-number-requires
     cast-station
     place-of-requires

@@ -23,9 +23,12 @@ departs-requires : tie.Need-departs-requires
 departs-requires c κs = search needs
 
 arrival-requires : tie.Need-arrival-requires
-arrival-requires c κs =
-    let s = c .before .before in
-    rw (c .departs .ensures) (omega (arith, arrives-by (s .pre .0) (s .args .one)))
+arrival-requires c κs = search needs
+
+cast-arrival : tie.Need-cast-arrival
+cast-arrival c =
+    let s = c .before .before .before in
+    record { fits = rw (c .arrival .ensures, c .before .departs .ensures) (omega (arith, arrives-by (s .pre .0) (s .args .one))) }
 
 changed-requires : tie.Need-changed-requires
 changed-requires c κs = search needs
@@ -59,6 +62,7 @@ alone-spec =
     (tie.spec
     departs-requires
     arrival-requires
+    cast-arrival
     changed-requires
     fewer-requires
     fewer-requires-2
