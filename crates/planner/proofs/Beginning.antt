@@ -13,9 +13,9 @@ use Rattle.rules.specs.Refusals.{refusals}
 use Rattle.best.proofs.Accepted.{Accepted, accepted-places}
 use Rattle.refusals.specs.Parts.{trains-in}
 use Rattle.planner.specs.declared.clock.Terms.{Terms}
-use Rattle.planner.specs.Order.{InOrder}
+use Rattle.planner.specs.Order.{Placed, InOrder}
 use Rattle.planner.specs.Day.{terms-of, Square, Tables}
-use Rattle.planner.specs.Planning.{Placed, Planning}
+use Rattle.planner.specs.Planning.{Planning}
 use Rattle.planner.proofs.Entries.{count-few}
 
 -- a table of which every cell is the same

@@ -20,7 +20,8 @@ use Rattle.refusals.proofs.Table.{train-within}
 use Rattle.planner.specs.declared.clock.Terms.{Terms}
 use Rattle.planner.specs.Trains.{next-figures, Queued}
 use Rattle.planner.specs.Day.{terms-of, turn}
-use Rattle.planner.specs.Planning.{asked-by, Placed, Planning}
+use Rattle.planner.specs.Order.{Placed}
+use Rattle.planner.specs.Planning.{asked-by, Planning}
 use Rattle.planner.proofs.Left.{all-at}
 use Rattle.planner.proofs.Entries.{count-few}
 use Rattle.planner.proofs.PlanRuns.{places-cover}

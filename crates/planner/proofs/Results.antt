@@ -16,7 +16,8 @@ use Rattle.planner.specs.declared.clock.Clock.{Clock}
 use Rattle.planner.specs.declared.clock.Terms.{Terms}
 use Rattle.planner.specs.Day.{earliest, rest}
 use Rattle.planner.specs.Walk.{start, times, Walks}
-use Rattle.planner.specs.Planning.{asked-by, Placed, Planning}
+use Rattle.planner.specs.Order.{Placed}
+use Rattle.planner.specs.Planning.{asked-by, Planning}
 use Rattle.planner.specs.Writer.{Covers, Tells, BothInListOrder}
 use Rattle.planner.proofs.Sending.{rest-grade}
 use Rattle.planner.proofs.Entries.{count-few}

@@ -56,6 +56,6 @@ pub record Counted (S : Section) (c : Clock) : Type 0 where
   pub small : c .begun ≡ true → mag (c .value) ≤ gone S c * 100100000001
 
 -- each station's first times are those of the whole day's runs
-pub record Walks (S : Section) (goal : ℤ) (ones twos : List ℕ) : Type 0 where
-  pub first : take (count-at S one) ones ≡ times one (runs-left S goal (start (count-at S one) (count-at S two)))
-  pub second : take (count-at S two) twos ≡ times two (runs-left S goal (start (count-at S one) (count-at S two)))
+pub record Walks (S : Section) (goal : ℤ) (times1 times2 : List ℕ) : Type 0 where
+  pub first : take (count-at S one) times1 ≡ times one (runs-left S goal (start (count-at S one) (count-at S two)))
+  pub second : take (count-at S two) times2 ≡ times two (runs-left S goal (start (count-at S one) (count-at S two)))

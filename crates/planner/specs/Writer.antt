@@ -22,6 +22,6 @@ InListOrder n places times departures = (leaves : ℕ → ℕ) → Tells n place
 
 -- the same of two stations with n and m trains: station 1's departures, then station 2's, each in list order
 unfoldable pub BothInListOrder : ℕ → ℕ → List ℕ → List ℕ → List ℕ → List ℕ → List ℕ → Type 0
-BothInListOrder n m first second ones twos departures =
-    (leaves leaves′ : ℕ → ℕ) → Tells n first ones leaves → Tells m second twos leaves′
+BothInListOrder n m first second times1 times2 departures =
+    (leaves leaves′ : ℕ → ℕ) → Tells n first times1 leaves → Tells m second times2 leaves′
     → departures ≡ map leaves (count-from 0 n) ++ map leaves′ (count-from 0 m)

@@ -44,8 +44,8 @@ fn scheduled(
 {
     tables::fill(terms, one, two, first, second, counts, changes);
     let goal = walk::goal(terms, one, two, first, second, counts, changes);
-    let mut ones: [u32; 48] = [0; 48];
-    let mut twos: [u32; 48] = [0; 48];
+    let mut times1: [u32; 48] = [0; 48];
+    let mut times2: [u32; 48] = [0; 48];
     walk::walk(
         terms,
         one,
@@ -55,10 +55,10 @@ fn scheduled(
         goal,
         counts,
         changes,
-        &mut ones,
-        &mut twos,
+        &mut times1,
+        &mut times2,
     );
-    writer::write_both(departures, terms.ones, first, second, &ones, &twos);
+    writer::write_both(departures, terms.ones, first, second, &times1, &times2);
     goal
 }
 

@@ -87,23 +87,23 @@ pub fn walk(
     goal: i64,
     counts: &[[[i64; 3]; 49]; 49],
     changes: &[[[i64; 48]; 13]; 13],
-    ones: &mut [u32; 48],
-    twos: &mut [u32; 48],
+    times1: &mut [u32; 48],
+    times2: &mut [u32; 48],
 )
     requires { ⌜ Planning terms (now one) (now two) (now first) (now second) ⌝ }
     requires { ⌜ Tables (asked-by terms (now one) (now two)) (now counts) (now changes) ((terms .ones + 1) * 49) ⌝ }
-    requires { ⌜ (length (now ones) ≡ 48) × (length (now twos) ≡ 48) ⌝ }
-    ensures { λ _. ⌜ Walks (asked-by terms (now (one .entry)) (now (two .entry))) goal (now (ones .exit)) (now (twos .exit)) ⌝ }
+    requires { ⌜ (length (now times1) ≡ 48) × (length (now times2) ≡ 48) ⌝ }
+    ensures { λ _. ⌜ Walks (asked-by terms (now (one .entry)) (now (two .entry))) goal (now (times1 .exit)) (now (times2 .exit)) ⌝ }
 {
     let mut clock = begin(terms);
     while 0 < clock.ones + clock.twos {
         clock = step(terms, one, two, first, second, goal, clock, counts, changes);
         if clock.one {
             let k = terms.ones - 1 - clock.ones;
-            ones[k] = clock.departure;
+            times1[k] = clock.departure;
         } else {
             let k = terms.twos - 1 - clock.twos;
-            twos[k] = clock.departure;
+            times2[k] = clock.departure;
         }
     }
 }

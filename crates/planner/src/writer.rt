@@ -21,14 +21,14 @@ pub fn write_both(
     n: usize,
     first: &[usize; 48],
     second: &[usize; 48],
-    ones: &[u32; 48],
-    twos: &[u32; 48],
+    times1: &[u32; 48],
+    times2: &[u32; 48],
 )
     requires { ⌜ n ≤ length (now departures) ⌝ }
     requires { ⌜ Covers n (now first) ⌝ }
     requires { ⌜ Covers (length (now departures) - n) (now second) ⌝ }
-    ensures { λ _. ⌜ BothInListOrder n (length (now (departures .entry)) - n) (now (first .entry)) (now (second .entry)) (now (ones .entry)) (now (twos .entry)) (now (departures .exit)) ⌝ }
+    ensures { λ _. ⌜ BothInListOrder n (length (now (departures .entry)) - n) (now (first .entry)) (now (second .entry)) (now (times1 .entry)) (now (times2 .entry)) (now (departures .exit)) ⌝ }
 {
-    write(&mut departures[..n], first, ones);
-    write(&mut departures[n..], second, twos);
+    write(&mut departures[..n], first, times1);
+    write(&mut departures[n..], second, times2);
 }

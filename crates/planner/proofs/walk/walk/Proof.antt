@@ -12,11 +12,11 @@ use Rattle.planner.proofs.walk.walk.Statement.{statement}
 use Rattle.planner.proofs.walk.walk.Tie as tie
 
 abbrev Inv-loop : tie.InvT-loop
-Inv-loop terms one two first second goal counts changes ones₀ twos₀ clock₀ ones twos clock =
-    Noted (asked-by terms one two) (toZ w64 goal) clock ones twos
+Inv-loop terms one two first second goal counts changes times1₀ times2₀ clock₀ times1 times2 clock =
+    Noted (asked-by terms one two) (toZ w64 goal) clock times1 times2
 
 abbrev μ-loop : tie.MeasureT-loop
-μ-loop terms one two first second goal counts changes ones₀ twos₀ clock₀ ones twos clock = clock .ones + clock .twos
+μ-loop terms one two first second goal counts changes times1₀ times2₀ clock₀ times1 times2 clock = clock .ones + clock .twos
 
 begin-requires : tie.Need-begin-requires Inv-loop μ-loop
 begin-requires c κs = search needs
@@ -62,11 +62,11 @@ sub-k c = omega (arith, one-place (c .before))
 sub-k-2 : tie.Need-sub-k-2 Inv-loop μ-loop
 sub-k-2 c = omega (arith, one-place (c .before .before))
 
-mul-ones : tie.Need-mul-ones Inv-loop μ-loop
-mul-ones c = omega (arith, one-place (c .before .before))
+mul-times1 : tie.Need-mul-times1 Inv-loop μ-loop
+mul-times1 c = omega (arith, one-place (c .before .before))
 
-element-write-ones : tie.Need-element-write-ones Inv-loop μ-loop
-element-write-ones c = omega (arith, one-place (c .before .before))
+element-write-times1 : tie.Need-element-write-times1 Inv-loop μ-loop
+element-write-times1 c = omega (arith, one-place (c .before .before))
 
 loop-less : tie.Need-loop-less Inv-loop μ-loop
 loop-less c = fewer (c .before .before .before)
@@ -83,11 +83,11 @@ sub-k-3 c = omega (arith, two-place (c .before))
 sub-k-4 : tie.Need-sub-k-4 Inv-loop μ-loop
 sub-k-4 c = omega (arith, two-place (c .before .before))
 
-mul-twos : tie.Need-mul-twos Inv-loop μ-loop
-mul-twos c = omega (arith, two-place (c .before .before))
+mul-times2 : tie.Need-mul-times2 Inv-loop μ-loop
+mul-times2 c = omega (arith, two-place (c .before .before))
 
-element-write-twos : tie.Need-element-write-twos Inv-loop μ-loop
-element-write-twos c = omega (arith, two-place (c .before .before))
+element-write-times2 : tie.Need-element-write-times2 Inv-loop μ-loop
+element-write-times2 c = omega (arith, two-place (c .before .before))
 
 loop-less-2 : tie.Need-loop-less-2 Inv-loop μ-loop
 loop-less-2 c = fewer (c .before .before .before)
@@ -116,14 +116,14 @@ walk-spec =
     step-requires
     sub-k
     sub-k-2
-    mul-ones
-    element-write-ones
+    mul-times1
+    element-write-times1
     loop-less
     loop-again
     sub-k-3
     sub-k-4
-    mul-twos
-    element-write-twos
+    mul-times2
+    element-write-times2
     loop-less-2
     loop-again-2
     returns)
