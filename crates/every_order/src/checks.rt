@@ -8,7 +8,7 @@ use crate::tally;
 use crate::values;
 use crate::waiting;
 use rules::Outcome;
-ghost use Prim.Native.Nat.{_≤_};
+ghost use Prim.Native.Nat.{_<_, _≤_};
 ghost use lib.ListN.{length};
 
 // Whether two schedules are the same.
@@ -29,7 +29,7 @@ fn differences(
     two: &[i32],
     state: &mut u64,
 ) -> u64
-    requires { ⌜ section .trains ≤ 6 ⌝ }
+    requires { ⌜ (0 < section .trains) × (section .trains ≤ 6) ⌝ }
 {
     let mut plan: [u32; 6] = [0; 6];
     let count = section.trains;
@@ -59,7 +59,7 @@ fn parted(
     end: usize,
     state: &mut u64,
 ) -> u64
-    requires { ⌜ section .trains ≤ 6 ⌝ }
+    requires { ⌜ (0 < section .trains) × (section .trains ≤ 6) ⌝ }
     requires { ⌜ (split ≤ end) × (end ≤ length (now list)) ⌝ }
 {
     differences(section, trains, &list[0..split], &list[split..end], state)

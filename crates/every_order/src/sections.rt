@@ -25,7 +25,7 @@ impl Section {
 
 // A section of 1 to 6 trains. Either station may be empty.
 pub fn draw(objective: u32, state: &mut u64) -> Section
-    ensures { λ r. ⌜ (r .ones ≤ r .trains) × (r .trains ≤ 6) ⌝ }
+    ensures { λ r. ⌜ (r .ones ≤ r .trains) × (0 < r .trains) × (r .trains ≤ 6) ⌝ }
 {
     let running = 2 + random::below(state, 19);
     let headway = 1 + random::below(state, running - 1);

@@ -8,7 +8,7 @@ use crate::strings;
 use crate::tally;
 use crate::values;
 use rules::Outcome;
-ghost use Prim.Native.Nat.{_≤_};
+ghost use Prim.Native.Nat.{_<_, _≤_};
 
 // A random order that may be: any under objectives 1 and 2, one that keeps list order under 3 and 4.
 fn random_order(section: Section, trains: &[[i32; 17]; 6], state: &mut u64) -> [usize; 6] {
@@ -30,10 +30,12 @@ fn random_waits(state: &mut u64) -> [u32; 6] {
     ]
 }
 
-// The departures with one of them a second or two later or earlier. Where that is the place of no train, nothing is damaged.
-fn damaged(departures: [u32; 6], state: &mut u64) -> [u32; 6] {
+// The departures with one train's a second or two later or earlier.
+fn damaged(departures: [u32; 6], trains: usize, state: &mut u64) -> [u32; 6]
+    requires { ⌜ (0 < trains) × (trains ≤ 6) ⌝ }
+{
     let mut damaged = departures;
-    let train = random::below(state, 6) as usize;
+    let train = random::below(state, trains as u32) as usize;
     let seconds = 1 + random::below(state, 2);
     let departure = departures[train];
     damaged[train] = std::num::wrapping_add_u32(departure, seconds);
@@ -86,12 +88,12 @@ fn tried(
     best: i64,
     state: &mut u64,
 ) -> u64
-    requires { ⌜ section .trains ≤ 6 ⌝ }
+    requires { ⌜ (0 < section .trains) × (section .trains ≤ 6) ⌝ }
 {
     let order = random_order(section, trains, state);
     let waits = random_waits(state);
     let departures = schedules::scheduled(section, &order, &waits);
-    let moved = damaged(departures, state);
+    let moved = damaged(departures, section.trains, state);
     let conflict = safety::conflict(section, &departures) != safety::SAFE;
     let better = values::value(section, trains, &departures) < best;
     let judged = judged_otherwise(section, trains, one, two, departures);
@@ -111,7 +113,7 @@ pub fn differences(
     best: i64,
     state: &mut u64,
 ) -> u64
-    requires { ⌜ section .trains ≤ 6 ⌝ }
+    requires { ⌜ (0 < section .trains) × (section .trains ≤ 6) ⌝ }
 {
     let mut differences = 0;
     let mut schedules: u32 = 0;
