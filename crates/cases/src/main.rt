@@ -4,10 +4,14 @@ mod draft;
 mod grammar;
 mod largest;
 mod page;
+mod rows;
 
 fn main() {
-    page::steps();
-    page::broken_rows();
+    rows::steps();
+    rows::joined();
+    rows::full();
+    rows::beyond();
+    rows::broken();
     page::timings();
     page::weights();
     page::due_times();

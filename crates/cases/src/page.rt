@@ -1,46 +1,6 @@
 // The cases that the page names beside A to M, with their neighbours at each bound. p = 10 and β = 2 unless said.
 use crate::draft::show;
 
-// Rows: the arrival at the very second of a step, the largest cost in place of the sum, and list order.
-pub fn steps() {
-    show(
-        b"I, the second start 20",
-        b"3 3 10 2\n17 2 0 15 0 0 0 0 0 0 0 100 0 0 0 0 0 0\n17 2 0 20 0 0 0 0 0 0 0 40 0 0 0 0 0 0\n0\n",
-    );
-    show(
-        b"I, the second start 21",
-        b"3 3 10 2\n17 2 0 15 0 0 0 0 0 0 0 100 0 0 0 0 0 0\n17 2 0 21 0 0 0 0 0 0 0 40 0 0 0 0 0 0\n0\n",
-    );
-    show(
-        b"I, the largest cost",
-        b"3 4 10 2\n17 2 0 15 0 0 0 0 0 0 0 100 0 0 0 0 0 0\n17 2 0 15 0 0 0 0 0 0 0 40 0 0 0 0 0 0\n0\n",
-    );
-    show(
-        b"two one-step trains recorded 2, 0",
-        b"3 3 10 2\n34 1 0 0 0 0 0 0 0 0 0 0 0 0 0 0 0 0 1 0 0 0 0 0 0 0 0 0 0 0 0 0 0 0 0\n0\n2 2 0\n",
-    );
-    show(
-        b"two one-step trains recorded 0, 2",
-        b"3 3 10 2\n34 1 0 0 0 0 0 0 0 0 7 0 0 0 0 0 0 0 1 0 0 0 0 0 0 0 0 5 0 0 0 0 0 0 0\n0\n2 0 2\n",
-    );
-}
-
-// Rows that break their rule.
-pub fn broken_rows() {
-    show(
-        b"a first start of 1",
-        b"3 3 10 2\n17 1 1 0 0 0 0 0 0 0 0 0 0 0 0 0 0 0\n0\n0\n",
-    );
-    show(
-        b"a start twice",
-        b"3 3 10 2\n0\n17 2 0 0 0 0 0 0 0 0 0 0 0 0 0 0 0 0\n0\n",
-    );
-    show(
-        b"a cost that falls",
-        b"3 3 10 2\n17 2 0 5 0 0 0 0 0 0 3 2 0 0 0 0 0 0\n0\n0\n",
-    );
-}
-
 // The bounds of the running time and the headway.
 pub fn timings() {
     show(b"p = 2, headway 1", b"3 2 2 1\n1 1\n1 1\n0\n");
