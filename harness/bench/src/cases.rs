@@ -1,8 +1,10 @@
 //! The timed sections: random ones, the same in every run.
 
 use compare::check::lists;
+use compare::largest::{filled, full_file};
 use compare::random::Random;
 use compare::sections::section_of;
+use compare::text::{file_text, plain_text};
 use linked::Lists;
 use page::Section;
 
@@ -37,6 +39,24 @@ pub fn cases(objective: u32, trains: usize) -> Vec<Case> {
     (0..SECTIONS).map(|_| make()).collect()
 }
 
+/// The files that ask for the sections' plans.
+pub fn files(cases: &[Case]) -> Vec<Vec<u8>> {
+    let texts = cases.iter().map(|case| plain_text(&case.section, &[]));
+    texts.collect()
+}
+
+/// Files of 512 numbers in each section, mostly of nine digits, and of all the bytes allowed.
+pub fn full_files() -> Vec<Vec<u8>> {
+    let mut random = Random::new(512);
+    let files = (0..SECTIONS).map(|_| full_file(&mut random, 999_999_999));
+    files.map(|file| filled(file_text(&file))).collect()
+}
+
+pub fn longest(files: &[Vec<u8>]) -> &[u8] {
+    let longest = files.iter().max_by_key(|text| text.len());
+    longest.expect("a kind has at least one file")
+}
+
 fn checked(section: Section, trains: usize) -> Case {
     let mut departures = vec![u32::MAX; trains];
     let mut expected = vec![u32::MAX; trains];
@@ -56,9 +76,5 @@ fn checked(section: Section, trains: usize) -> Case {
 impl Case {
     pub fn lists(&self) -> Lists<'_> {
         lists(&self.section)
-    }
-
-    pub fn text(&self) -> Vec<u8> {
-        compare::text::plain_text(&self.section, &[])
     }
 }

@@ -1,18 +1,40 @@
-//! Times the linked product beside the same tables in plain Rust.
+//! bench [stack [KIB]]
+//!
+//! Times the linked product beside the same tables in plain Rust, or finds the least stack that
+//! the program and `plan` need. With a number: plans in a thread with so little stack.
 
 mod cases;
+mod files;
 mod plain;
 mod program;
+mod stack;
 mod timing;
 
+use std::env;
 use std::hint::black_box;
+use std::process::ExitCode;
 
-use linked::{Handed, Lists, LONGEST_ANSWER};
+use linked::{Handed, Lists};
 
 use cases::{cases, sizes, Case};
-use timing::{alone, alternate, Times};
+use timing::alternate;
 
-fn main() {
+fn main() -> ExitCode {
+    let words: Vec<String> = env::args().skip(1).collect();
+    let kib = words.get(1).and_then(|word| word.parse().ok());
+    match (words.first().map(String::as_str), words.len(), kib) {
+        (None, ..) => print_times(),
+        (Some("stack"), 1, _) => stack::print_table(),
+        (Some("stack"), 2, Some(kib)) => stack::plan_within(kib),
+        _ => {
+            eprintln!("usage: bench [stack [KIB]]");
+            return ExitCode::from(2);
+        }
+    }
+    ExitCode::SUCCESS
+}
+
+fn print_times() {
     println!("Nanoseconds a call, both sides in one run; growth is the proved side's.");
     table("plan", |cases| {
         alternate(
@@ -28,19 +50,13 @@ fn main() {
             || judge_all(cases, plain::judge),
         )
     });
-    println!("\nproved, the longest of the files: read, planned and printed; then the program as a whole");
-    for (objective, trains) in [(1, 48), (2, 48), (3, 12), (4, 12)] {
-        whole_text(objective, trains);
-    }
-    println!(
-        "no text: the program as a whole {:>10.0}",
-        program_time(b"")
-    );
-    println!("\nCleared by each planning call: proved, the tables of both kinds of objective");
-    println!("(57,624 and 64,896 bytes); plain, only the table of the objective at hand.");
+    files::print_table();
+    println!("\nCleared by each planning call: proved, the tables of both kinds of objective;");
+    println!("plain, only the table of the objective at hand.");
 }
 
-fn table(name: &str, time: impl Fn(&[Case]) -> Times) {
+/// One row a size; `time` gives the proved side's time and the plain side's.
+fn table(name: &str, time: impl Fn(&[Case]) -> [f64; 2]) {
     println!(
         "\n{name:<10}{:>8}{:>12}{:>12}{:>8}{:>8}",
         "trains", "proved", "plain", "ratio", "growth"
@@ -48,16 +64,14 @@ fn table(name: &str, time: impl Fn(&[Case]) -> Times) {
     for objective in 1..=4 {
         let mut before = None;
         for &trains in sizes(objective) {
-            let times = time(&cases(objective, trains));
-            let growth = before.map_or("-".to_string(), |b| format!("{:.2}", times.proved / b));
-            let ratio = times.proved / times.plain;
+            let [proved, plain] = time(&cases(objective, trains));
+            let growth = before.map_or("-".to_string(), |b| format!("{:.2}", proved / b));
+            let ratio = proved / plain;
             println!(
-                "{:<10}{trains:>8}{:>12.0}{:>12.0}{ratio:>8.2}{growth:>8}",
-                format!("objective {objective}"),
-                times.proved,
-                times.plain
+                "{:<10}{trains:>8}{proved:>12.0}{plain:>12.0}{ratio:>8.2}{growth:>8}",
+                format!("objective {objective}")
             );
-            before = Some(times.proved);
+            before = Some(proved);
         }
     }
 }
@@ -75,26 +89,4 @@ fn judge_all(cases: &[Case], judge: impl Fn(Lists, &[u32]) -> Handed) {
     for case in cases {
         black_box(judge(black_box(case.lists()), black_box(&case.departures)));
     }
-}
-
-fn whole_text(objective: u32, trains: usize) {
-    let cases = cases(objective, trains);
-    let texts = cases.iter().map(Case::text);
-    let text = texts.max_by_key(Vec::len).unwrap_or_default();
-    let mut answer = [0; LONGEST_ANSWER];
-    let time = alone(|| {
-        black_box(linked::answer_text_into(black_box(&text), &mut answer));
-    });
-    let bytes = text.len();
-    let whole = program_time(&text);
-    println!("objective {objective}, {trains} + {trains} trains, {bytes} bytes: {time:>10.0}{whole:>10.0}");
-}
-
-/// Nanoseconds for one run of the program on a text.
-fn program_time(text: &[u8]) -> f64 {
-    let expected = linked::answer_text(text);
-    alone(|| {
-        let answer = program::answer(text).expect("first build it: `rt check section`");
-        assert_eq!(answer, expected);
-    })
 }

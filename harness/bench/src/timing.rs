@@ -7,26 +7,21 @@ const ROUNDS: usize = 61;
 const BATCH_NANOSECONDS: f64 = 200_000.0;
 
 /// Nanoseconds a call: the median batch of each side.
-pub struct Times {
-    pub proved: f64,
-    pub plain: f64,
-}
-
-pub fn alternate(calls: usize, mut proved: impl FnMut(), mut plain: impl FnMut()) -> Times {
-    let repeats = repeats(&mut proved).max(repeats(&mut plain));
+pub fn alternate(calls: usize, mut one: impl FnMut(), mut other: impl FnMut()) -> [f64; 2] {
+    let repeats = repeats(&mut one).max(repeats(&mut other));
     let mut times = [Vec::new(), Vec::new()];
     for _ in 0..ROUNDS {
-        times[0].push(batch(repeats, &mut proved));
-        times[1].push(batch(repeats, &mut plain));
+        times[0].push(batch(repeats, &mut one));
+        times[1].push(batch(repeats, &mut other));
     }
-    let [proved, plain] = times.map(|batches| median(batches) / calls as f64);
-    Times { proved, plain }
+    times.map(|batches| median(batches) / calls as f64)
 }
 
 /// Nanoseconds a call of one side alone.
-pub fn alone(mut side: impl FnMut()) -> f64 {
+pub fn alone(calls: usize, mut side: impl FnMut()) -> f64 {
     let repeats = repeats(&mut side);
-    median((0..ROUNDS).map(|_| batch(repeats, &mut side)).collect())
+    let batches = (0..ROUNDS).map(|_| batch(repeats, &mut side)).collect();
+    median(batches) / calls as f64
 }
 
 /// Nanoseconds for one of `repeats` runs.

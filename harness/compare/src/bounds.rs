@@ -4,20 +4,21 @@ use page::Section;
 
 use crate::check::Input;
 use crate::spoil::EDGES;
-use crate::text::plain_text;
+use crate::text::{plain_text, LONGEST_TEXT};
 
 const RUNNING: u32 = 10;
 
 /// A row of one step that costs nothing.
 const FREE_ROW: [i32; 17] = [1, 0, 0, 0, 0, 0, 0, 0, 0, 0, 0, 0, 0, 0, 0, 0, 0];
 /// A row that uses all of its steps.
-const FULL_ROW: [i32; 17] = [8, 0, 9, 10, 11, 12, 20, 22, 30, 0, 0, 1, 2, 3, 5, 8, 13];
+pub const FULL_ROW: [i32; 17] = [8, 0, 9, 10, 11, 12, 20, 22, 30, 0, 0, 1, 2, 3, 5, 8, 13];
 
 pub fn bound_inputs() -> Vec<Input> {
     let sections = [number_edges(), row_edges(), heading_edges(), count_edges()].concat();
     let planned = sections.iter().map(|section| plain_text(section, &[]));
+    let full = full_texts().into_iter().chain(crowded_texts());
     let texts = planned.chain(departure_edges()).chain(long_texts());
-    texts.map(Input::Text).collect()
+    texts.chain(full).map(Input::Text).collect()
 }
 
 fn section(objective: u32, one: &[i32], two: &[i32]) -> Section {
@@ -116,4 +117,36 @@ fn long_texts() -> Vec<Vec<u8>> {
     let mut texts: Vec<Vec<u8>> = [16_383, 16_384, 16_385, 20_000].map(padded).to_vec();
     texts.extend([Vec::new(), vec![b' '; 16_384], vec![b'\n'; 16_385]]);
     texts
+}
+
+/// All three sections full, and one of them with a number too many.
+fn full_texts() -> Vec<Vec<u8>> {
+    let full = [1, 2, 3, 4].map(|objective| text_of_counts(objective, [512, 512, 512]));
+    let over = [[513, 512, 512], [512, 513, 512], [512, 512, 513]];
+    let over = over.map(|counts| text_of_counts(2, counts));
+    [&full[..], &over].concat()
+}
+
+/// More numbers behind a file: to 1,543 in all, which a full one has by itself, to 1,544, or to
+/// as many as the bytes allow.
+fn crowded_texts() -> Vec<Vec<u8>> {
+    let full = text_of_counts(2, [512, 512, 512]);
+    let pair = text_of_counts(2, [1, 1, 0]);
+    let numbers_of_pair = 9;
+    let room = |text: &[u8]| (LONGEST_TEXT - text.len()) / 2;
+    let behind = [
+        (&full, 1),
+        (&full, room(&full)),
+        (&pair, 1_543 - numbers_of_pair),
+        (&pair, 1_544 - numbers_of_pair),
+        (&pair, room(&pair)),
+    ];
+    let texts = behind.map(|(text, more)| [&text[..], &b"7 ".repeat(more)].concat());
+    texts.to_vec()
+}
+
+/// A file with so many numbers in each section after the heading.
+fn text_of_counts(objective: u32, [one, two, recorded]: [usize; 3]) -> Vec<u8> {
+    let section = section(objective, &vec![7; one], &vec![-7; two]);
+    plain_text(&section, &vec![7; recorded])
 }

@@ -32,7 +32,7 @@ pub fn check(input: &Input) -> Result<Seen, Difference> {
     }
 }
 
-fn check_text(text: &[u8]) -> Result<Seen, Difference> {
+pub fn check_text(text: &[u8]) -> Result<Seen, Difference> {
     let expected = String::from_utf8_lossy(&page::answer_text(text)).into_owned();
     let answered = String::from_utf8_lossy(&linked::answer_text(text)).into_owned();
     same("page", &expected, "linked", &answered)?;

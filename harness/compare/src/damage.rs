@@ -1,8 +1,7 @@
 //! Damages the text of a section file.
 
 use crate::random::Random;
-
-pub const LONGEST_TEXT: usize = 16_384;
+use crate::text::LONGEST_TEXT;
 
 const ODD_BYTES: [u8; 16] = [
     b'\t', b'\r', b'+', b'-', b'0', b'1', b'9', b' ', b'\n', b'/', b':', b'.', b'x', 0, 0x80, 0xff,

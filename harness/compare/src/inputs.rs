@@ -4,30 +4,33 @@ use page::Section;
 
 use crate::check::Input;
 use crate::damage::{damage, pad};
+use crate::largest::full_file;
 use crate::random::Random;
 use crate::recorded::{any_departures, train_counts};
 use crate::sections::{any_section, Size};
 use crate::spoil::spoil;
-use crate::text::{loose_text, plain_text};
+use crate::text::{loose_text, plain_text, LONGEST_TEXT};
 
 pub fn any_input(random: &mut Random) -> Input {
-    match random.below(10) {
-        0..=1 => {
+    match random.below(100) {
+        0..=19 => {
             let section = section_to_plan(random);
             Input::Text(planning_text(random, &section))
         }
-        2 => {
+        20..=29 => {
             let section = section_to_judge(random);
             Input::Text(judging_text(random, &section))
         }
-        3..=4 => damaged_text(random),
-        5 => spoiled_text(random),
-        6 => {
+        30..=47 => damaged_text(random),
+        48 => Input::Text(full_text(random)),
+        49 => Input::Text(crowded_text(random)),
+        50..=59 => spoiled_text(random),
+        60..=69 => {
             let section = section_to_judge(random);
             let departures = any_departures(random, &section);
             Input::Judge(section, departures)
         }
-        7 => spoiled_call(random),
+        70..=79 => spoiled_call(random),
         _ => plan_call(random),
     }
 }
@@ -78,6 +81,22 @@ fn damaged_text(random: &mut Random) -> Input {
     Input::Text(text)
 }
 
+fn full_text(random: &mut Random) -> Vec<u8> {
+    let largest = random.pick(&[1, 9, 9_999, 999_999]);
+    let file = full_file(random, largest);
+    any_layout(random, &file.section, &file.recorded)
+}
+
+/// A full file with more numbers behind it, up to as many as the bytes allow.
+fn crowded_text(random: &mut Random) -> Vec<u8> {
+    let mut text = full_text(random);
+    let room = (LONGEST_TEXT.saturating_sub(text.len()) / 2).max(1);
+    let any = 1 + random.below(room);
+    let more = random.pick(&[1, 2, any, room]);
+    text.extend(b" 7".repeat(more));
+    text
+}
+
 fn spoiled_text(random: &mut Random) -> Input {
     let (section, departures) = spoiled_section(random);
     let recorded = if random.one_in(2) {
@@ -117,9 +136,8 @@ fn spoiled_section(random: &mut Random) -> (Section, Vec<u32>) {
 fn plan_call(random: &mut Random) -> Input {
     let section = section_to_plan(random);
     let (ones, twos) = train_counts(&section);
-    let any_count = random.below(100);
     let count = if random.one_in(10) {
-        any_count
+        random.below(100)
     } else {
         ones + twos
     };

@@ -4,6 +4,7 @@ pub mod bounds;
 pub mod check;
 pub mod damage;
 pub mod inputs;
+pub mod largest;
 pub mod lists;
 pub mod random;
 pub mod recorded;

@@ -51,7 +51,8 @@ fn picked(random: &mut Random, count: usize, choices: &[i32]) -> Vec<i32> {
     (0..count).map(|_| random.pick(choices)).collect()
 }
 
-fn spread(random: &mut Random, count: usize, least: i64, most: i64) -> Vec<i32> {
+/// So many numbers from `least` to `most`.
+pub fn spread(random: &mut Random, count: usize, least: i64, most: i64) -> Vec<i32> {
     (0..count)
         .map(|_| random.between(least, most) as i32)
         .collect()

@@ -9,61 +9,59 @@ use crate::text::file_text;
 
 /// Takes the first smaller input that still differs, again and again.
 pub fn shrink(mut input: Input) -> Input {
-    while let Some(smaller) = smaller_inputs(&input)
-        .into_iter()
-        .find(|candidate| check(candidate).is_err())
-    {
+    while let Some(smaller) = first_smaller(&input) {
         input = smaller;
     }
     input
 }
 
-fn smaller_inputs(input: &Input) -> Vec<Input> {
+/// A call or a readable text loses a train, any other text some of its bytes.
+fn first_smaller(input: &Input) -> Option<Input> {
     match input {
-        Input::Text(text) => smaller_texts(text).into_iter().map(Input::Text).collect(),
-        Input::Plan(section, departures) => fewer_trains(section, departures)
-            .into_iter()
-            .map(|file| Input::Plan(file.section, file.recorded))
-            .collect(),
-        Input::Judge(section, departures) => fewer_trains(section, departures)
-            .into_iter()
-            .map(|file| Input::Judge(file.section, file.recorded))
-            .collect(),
-    }
-}
-
-/// A readable text loses a train, any other text some of its bytes.
-fn smaller_texts(text: &[u8]) -> Vec<Vec<u8>> {
-    match page::read(text) {
-        Some(file) => {
-            let plain = file_text(&file);
-            let fewer = fewer_trains(&file.section, &file.recorded);
-            let fewer = fewer.iter().map(file_text);
-            let tidied = std::iter::once(plain).chain(fewer);
-            tidied.filter(|other| other.len() < text.len()).collect()
+        Input::Text(text) => match page::read(text) {
+            Some(file) => first_differing(shorter_texts(&file, text.len()).map(Input::Text)),
+            None => first_differing(fewer_bytes(text).map(Input::Text)),
+        },
+        Input::Plan(section, departures) => {
+            let fewer = fewer_trains(section, departures);
+            first_differing(fewer.map(|file| Input::Plan(file.section, file.recorded)))
         }
-        None => fewer_bytes(text),
+        Input::Judge(section, departures) => {
+            let fewer = fewer_trains(section, departures);
+            first_differing(fewer.map(|file| Input::Judge(file.section, file.recorded)))
+        }
     }
 }
 
-fn fewer_bytes(text: &[u8]) -> Vec<Vec<u8>> {
-    let mut shorter = Vec::new();
-    let mut width = text.len() / 2;
-    while width > 0 {
+fn first_differing(mut candidates: impl Iterator<Item = Input>) -> Option<Input> {
+    candidates.find(|candidate| check(candidate).is_err())
+}
+
+/// The file plainly laid out, then without each train, where that is below `length` bytes.
+fn shorter_texts(file: &SectionFile, length: usize) -> impl Iterator<Item = Vec<u8>> + '_ {
+    let plain = std::iter::once_with(|| file_text(file));
+    let fewer = fewer_trains(&file.section, &file.recorded).map(|fewer| file_text(&fewer));
+    let texts = plain.chain(fewer);
+    texts.filter(move |text| text.len() < length)
+}
+
+/// The text without each half, then without each quarter and so on, down to single bytes.
+fn fewer_bytes(text: &[u8]) -> impl Iterator<Item = Vec<u8>> + '_ {
+    let widths = std::iter::successors(Some(text.len() / 2), |width| Some(width / 2));
+    let parts = widths.take_while(|&width| width > 0).flat_map(|width| {
         let starts = (0..=text.len() - width).step_by(width);
-        shorter.extend(starts.map(|at| [&text[..at], &text[at + width..]].concat()));
-        width /= 2;
-    }
-    shorter
+        starts.map(move |at| (at, at + width))
+    });
+    parts.map(|(from, to)| [&text[..from], &text[to..]].concat())
 }
 
 /// The section without each train in turn.
-fn fewer_trains(section: &Section, recorded: &[u32]) -> Vec<SectionFile> {
+fn fewer_trains<'a>(
+    section: &'a Section,
+    recorded: &'a [u32],
+) -> impl Iterator<Item = SectionFile> + 'a {
     let (ones, twos) = train_counts(section);
-    let trains = 0..ones + twos;
-    trains
-        .map(|i| without_train(section, recorded, i))
-        .collect()
+    (0..ones + twos).map(|train| without_train(section, recorded, train))
 }
 
 /// The section without one train and its departure.

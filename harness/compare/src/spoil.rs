@@ -49,7 +49,9 @@ fn some_list<'a>(random: &mut Random, section: &'a mut Section) -> &'a mut Vec<i
 
 fn spoil_headway(random: &mut Random, section: &mut Section) {
     let p = section.running;
-    section.headway = random.pick(&[0, 1, p - 1, p, p + 1, u32::MAX]);
+    // p may be spoiled already, to 0 or to the largest number.
+    let (below, above) = (p.wrapping_sub(1), p.wrapping_add(1));
+    section.headway = random.pick(&[0, 1, below, p, above, u32::MAX]);
 }
 
 /// One number too many or too few: no multiple of 17 where there are rows.

@@ -4,6 +4,9 @@ use page::{Section, SectionFile};
 
 use crate::random::Random;
 
+/// The most bytes that a section file may have.
+pub const LONGEST_TEXT: usize = 16_384;
+
 /// One section of the file a line.
 pub fn plain_text(section: &Section, recorded: &[u32]) -> Vec<u8> {
     let lines = lines(section, recorded).map(|line| line.join(" ") + "\n");

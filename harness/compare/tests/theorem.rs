@@ -10,7 +10,10 @@ use page::Section;
 fn tiny_section(random: &mut Random) -> Section {
     let objective = 1 + random.below(4) as u32;
     let one = random.below(3);
-    let two = if one == 0 { 1 } else { random.below(3) };
+    let two = match one {
+        0 => 1 + random.below(2),
+        _ => random.below(3),
+    };
     let mut section = section_of(random, objective, one, two);
     section.running = random.between(2, 3) as u32;
     section.headway = random.between(1, i64::from(section.running) - 1) as u32;

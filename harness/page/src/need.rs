@@ -57,9 +57,9 @@ fn read_row(row: &[i32]) -> Option<Vec<Step>> {
         return None;
     }
     let (starts, costs) = row[1..].split_at(STEPS_A_ROW);
-    let blanks = starts[used..].iter().chain(&costs[used..]);
+    let mut blanks = starts[used..].iter().chain(&costs[used..]);
     let steps: Vec<Step> = starts.iter().zip(costs).take(used).map(step).collect();
-    (blanks.into_iter().all(|&blank| blank == 0) && are_lawful(&steps)).then_some(steps)
+    (blanks.all(|&blank| blank == 0) && are_lawful(&steps)).then_some(steps)
 }
 
 fn step((&start, &cost): (&i32, &i32)) -> Step {

@@ -1,6 +1,6 @@
 //! The two ends of the line.
 
-#[derive(Clone, Copy, Debug, PartialEq, Eq, PartialOrd, Ord, Hash)]
+#[derive(Clone, Copy, Debug, PartialEq, Eq, Hash)]
 pub enum Station {
     One,
     Two,
