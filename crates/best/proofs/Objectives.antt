@@ -15,8 +15,7 @@ use Rattle.rules.specs.Trains.{Section, aim}
 use Rattle.rules.proofs.Tests.{both}
 use Rattle.theory.specs.Integers.{Grade, nothing, at, number, sum, largest, larger as larger-grade}
 use Rattle.theory.proofs.Choices.{cond-ind}
-use Rattle.theory.proofs.Integers.{≤ℤ-trans, sum-ordered, largest-ordered, raise, lower}
-use Rattle.theory.proofs.Integers.{difference-rises, difference-swap, product-rises, product-swap}
+use Rattle.theory.proofs.Integers.{≤ℤ-trans, sum-ordered, largest-ordered, raise, lower, difference-rises, difference-swap, product-rises, product-swap}
 use Rattle.best.specs.Fair.{Listed, Trades, Fair}
 use Rattle.best.proofs.Keys.{not-less, by-key, turned}
 

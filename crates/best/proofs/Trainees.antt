@@ -11,7 +11,7 @@ use Rattle.rules.specs.Trains.{Section, aim, count-at, count, train-at, trains-
 use Rattle.rules.specs.Safe.{Safe}
 use Rattle.rules.specs.Value.{cost-of, value}
 use Rattle.rules.specs.Orders.{station-order, schedule, by-number, departures-of, value-of, best-order, best-value}
-use Rattle.rules.specs.Refusals.{refuse, naming, known, ragged, crowded, refusals}
+use Rattle.rules.specs.Refusals.{refuse, naming, known, ragged, crowded, call-refusals, train-refusals, refusals}
 use Rattle.rules.specs.Sections.{weights}
 use Rattle.best.specs.Trainees.{WaitingNeverHelps, StationOrderServes, longer-first}
 use Rattle.best.proofs.Objectives.{fair-aim}
@@ -36,7 +36,7 @@ pub longer-first-is-not-best : ¬ ((S : Section) (places : ℕ) → refusals S p
 unfolding good-running good-headway good-timing running arrival figure within weighted aim-of
     aim count-at count train-at trains-at trains runs cost-of value
     station-order schedule by-number departures-of value-of best-order best-value
-    refuse naming known ragged crowded refusals longer-first
+    refuse naming known ragged crowded call-refusals train-refusals refusals longer-first
 longer-first-is-not-best claim =
     let e : pos 132 ≡ pos 92 = claim (weights (1 ∷ 1 ∷ []) (5 ∷ [])) 3 refl in
     let z : _≡_ {A = ℕ} 132 92 = cc in

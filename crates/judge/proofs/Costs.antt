@@ -10,7 +10,7 @@ use Rattle.rules.specs.Trains.{Section, aim, list-at, count-at, count, train-at
 use Rattle.rules.specs.Value.{cost-of}
 use Rattle.rules.proofs.Trains.{nth, nth-one, nth-two}
 use Rattle.line.specs.Station.{station}
-use Rattle.refusals.specs.Parts.{trains-in}
+use Rattle.refusals.specs.Trains.{trains-in}
 use Rattle.judge.specs.Runs.{run-of}
 use Rattle.refusals.proofs.Table.{train-within}
 

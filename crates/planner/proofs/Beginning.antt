@@ -11,7 +11,7 @@ use Rattle.rules.specs.Objectives.{aim-of}
 use Rattle.rules.specs.Trains.{Section, asked, aim, list-at, count-at, count}
 use Rattle.rules.specs.Refusals.{refusals}
 use Rattle.best.proofs.Accepted.{Accepted, accepted-places}
-use Rattle.refusals.specs.Parts.{trains-in}
+use Rattle.refusals.specs.Trains.{trains-in}
 use Rattle.planner.specs.declared.clock.Terms.{Terms}
 use Rattle.planner.specs.Order.{Placed, InOrder}
 use Rattle.planner.specs.Day.{terms-of, Square, Tables}

@@ -15,7 +15,7 @@ use Rattle.theory.proofs.Facts.{each}
 use Rattle.theory.proofs.Permutations.{perm-length, all-perm}
 use Rattle.best.proofs.Accepted.{Accepted}
 use Rattle.best.proofs.Numbers.{length-count}
-use Rattle.refusals.specs.Parts.{trains-in}
+use Rattle.refusals.specs.Trains.{trains-in}
 use Rattle.refusals.proofs.Table.{train-within}
 use Rattle.planner.specs.declared.clock.Terms.{Terms}
 use Rattle.planner.specs.Trains.{next-figures, Queued}

@@ -1,8 +1,7 @@
 -- What the first of the refusals is, part by part.
 -- An answer settles a part or leaves it to the next; the searches settle the trains.
-use mathlib.Core.Bool.{Bool, true, false, not, _||_}
-use mathlib.Core.List.{List, [], _∷_, _++_, append-assoc, append-eq-nil-iff}
-use mathlib.Core.Logic.{_↔_}
+use mathlib.Core.Bool.{Bool, false, not}
+use mathlib.Core.List.{List, [], _∷_, _++_, append-eq-nil-iff}
 use mathlib.Core.Path.{_≡_, refl, _∙_, ap}
 use Prim.Native.Nat.{ℕ, _+_, _<_, _≤_}
 use native.Mathlib.Omega.{arith}
@@ -13,17 +12,14 @@ use Rattle.rules.specs.declared.Outcome.the-variants.{Value, Refused}
 use Rattle.rules.specs.Lists.{those}
 use Rattle.rules.specs.Line.{Station, one, two}
 use Rattle.rules.specs.Trains.{Section, aim, list-at, count-at, count, Train, train-at, trains-at, trains}
-use Rattle.rules.specs.Refusals.{Refusal, refuse, naming, crowded, refusals}
+use Rattle.rules.specs.Refusals.{Refusal, refuse, naming, crowded, call-refusals, train-refusals}
 use Rattle.rules.specs.Answers.{value-is, refused, says, verdict}
 use Rattle.rules.proofs.Lists.{those-append}
-use Rattle.refusals.specs.Parts.{call-refusals, train-refusals, trains-in, bad-at, first-bad}
+use Rattle.rules.proofs.Refusals.{refuse-none}
+use Rattle.rules.proofs.Tests.{neither}
+use Rattle.refusals.specs.Trains.{trains-in, bad-at, first-bad}
 use Rattle.refusals.proofs.Seek.{Begins, begins, begins-append, none-pass, first-passes}
 use Rattle.refusals.proofs.Table.{most-bound}
-
--- the rules' list is the two parts, one after the other
-pub refusals-parts : (S : Section) (places : ℕ) → refusals S places ≡ call-refusals S ++ train-refusals S places
-unfolding refusals call-refusals train-refusals
-refusals-parts S places = simp append-assoc
 
 -- An answer that says the first of these refusals: a refusal stands, whatever follows and whatever the value would be;
 -- a value says that there is none.
@@ -43,16 +39,6 @@ module _ (a : Answer) (v : ℤ) where
   nothing-refused [] told said = refl
   nothing-refused (x ∷ xs) {w} told said =
       let clash : value-is w ≡ refused (x .number) (x .first) (x .second) = rw told at said in cc
-
--- a test that refuses nothing fails; of two tests that fail together, each does
-pub refuse-none : (applies : Bool) (number : ℕ) → (refuse applies number ≡ []) ↔ (applies ≡ false)
-unfolding refuse
-refuse-none true number = (λ e. cc, λ e. cc)
-refuse-none false number = (λ e. refl, λ e. refl)
-
-neither : (a b : Bool) → ((a || b) ≡ false) ↔ ((a ≡ false) × (b ≡ false))
-neither true b = (λ e. (cc, cc), λ e. e .0)
-neither false b = (λ e. (refl, e), λ e. e .1)
 
 -- how many trains a station has, and the first of them that breaks its rule, as the code finds them
 abbrev pub found-at : Section → Station → ℕ

@@ -8,7 +8,7 @@ use lib.IntN.{ℤ}
 use mathlib.Core.List.{List}
 use Rattle.rules.specs.Objectives.{aim-of}
 use Rattle.costs.proofs.Table.{numbers-listed, most-listed}
-use Rattle.refusals.specs.Parts.{trains-in}
+use Rattle.refusals.specs.Trains.{trains-in}
 
 pub numbers-positive : (n : ℕ) → 0 < aim-of n .numbers
 numbers-positive n = rw numbers-listed (row (aim-of n .listed))

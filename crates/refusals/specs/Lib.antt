@@ -1,4 +1,4 @@
 -- What the contracts of this crate are stated by, beside the rules.
 -- The promise of `refusal` cites the rules alone.
 pub mod Seek
-pub mod Parts
+pub mod Trains

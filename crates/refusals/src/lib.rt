@@ -1,5 +1,5 @@
 // What is refused of a call, planner's and judge's alike: the first of refusals 1 to 7 that applies.
-// specs/Parts has the definitions that the contracts below cite beside the rules'.
+// specs/Trains has the definitions that the contracts below cite beside the rules'.
 use rules::Answer;
 use rules::Outcome;
 use rules::Timing;
@@ -11,10 +11,10 @@ ghost use lib.IntN.{pos};
 ghost use lib.ListN.{length};
 ghost use Rattle.rules.specs.Line.{good-timing};
 ghost use Rattle.rules.specs.Objectives.{aim-of};
-ghost use Rattle.rules.specs.Refusals.{known, refusals};
+ghost use Rattle.rules.specs.Refusals.{known, call-refusals, train-refusals, refusals};
 ghost use Rattle.rules.specs.Answers.{says, verdict};
 ghost use Rattle.rules.specs.Trains.{asked};
-ghost use Rattle.refusals.specs.Parts.{call-refusals, train-refusals, trains-in, first-bad};
+ghost use Rattle.refusals.specs.Trains.{trains-in, first-bad};
 
 // The refusal with this number and these places.
 pub fn refused(number: u32, first: u32, second: u32) -> Answer

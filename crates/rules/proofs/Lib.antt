@@ -3,4 +3,5 @@ pub mod Tests
 pub mod Lists
 pub mod Line
 pub mod Trains
+pub mod Refusals
 pub mod Answers

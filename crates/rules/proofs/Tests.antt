@@ -22,6 +22,6 @@ pub passes : (a : Bool) → not a ≡ false → T a
 passes true e = tt
 passes false e = absurd (true≢false e)
 
-pub neither : (a b : Bool) → a || b ≡ false → (a ≡ false) × (b ≡ false)
-neither true b e = absurd (true≢false e)
-neither false b e = (refl, e)
+pub neither : (a b : Bool) → ((a || b) ≡ false) ↔ ((a ≡ false) × (b ≡ false))
+neither true b = (λ e. absurd (true≢false e), λ h. h .0)
+neither false b = (λ e. (refl, e), λ h. h .1)

@@ -14,7 +14,7 @@ use Rattle.rules.specs.Trains.{Section, aim, count-at, count, train-at, 
 use Rattle.rules.specs.Safe.{in-order, keeps, conflicts}
 use Rattle.rules.specs.Value.{cost-of, value}
 use Rattle.rules.specs.Orders.{station-order, schedule, by-number, departures-of, value-of, best-order, best-value, plan}
-use Rattle.rules.specs.Refusals.{refuse, naming, naming-two, known, ragged, crowded, refusals, judge-refusals}
+use Rattle.rules.specs.Refusals.{refuse, naming, naming-two, known, ragged, crowded, call-refusals, train-refusals, refusals, judge-refusals}
 use Rattle.rules.specs.Answers.{Verdict, value-is, refused, planner-answers, planner-leaves, judge-answers}
 use Rattle.rules.specs.Sections.{section, on-line, weights, line, due, tabled, eight, row-of, steps-at, free, times, case-I}
 
@@ -146,6 +146,7 @@ unfolding good-running good-headway good-timing running arrival apart
     figure within is-zero steps used unused good-row row-cost larger lateness weighted by-rows aim-of
     aim count-at count train-at trains-at trains runs in-order keeps conflicts cost-of value
     station-order schedule by-number departures-of value-of best-order best-value plan
-    refuse naming naming-two known ragged crowded refusals judge-refusals planner-answers planner-leaves judge-answers
+    refuse naming naming-two known ragged crowded call-refusals train-refusals refusals judge-refusals
+    planner-answers planner-leaves judge-answers
     cases more full-stations
 worked-by-hand = (refl, refl, refl)

@@ -62,6 +62,6 @@ by-rows join = record {
   joined = join;
 }
 
--- only 1 to 4 are asked for: any other number is refused before
+-- what a section with this number aims at; only 1 to 4 are asked for, as any other number is refused before
 unfoldable pub aim-of : ℕ → Objective
 aim-of n = cond (eqb n 1) lateness (cond (eqb n 2) weighted (cond (eqb n 3) (by-rows _+ℤ_) (by-rows larger)))

@@ -34,16 +34,23 @@ ragged S s = not (eqb (length (list-at S s) % aim S .numbers) 0)
 unfoldable pub crowded : Section → Station → Bool
 crowded S s = ltb (aim S .most) (count-at S s)
 
--- planner and judge alike; `places` is the departures' length
-unfoldable pub refusals : Section → ℕ → List Refusal
-refusals S places =
+-- planner and judge alike: first what the call's numbers and its lists' lengths settle
+unfoldable pub call-refusals : Section → List Refusal
+call-refusals S =
     refuse (not (known (S .objective))) 1 ++
     refuse (not (good-timing (S .timing))) 2 ++
     refuse (ragged S one || ragged S two) 3 ++
     refuse (eqb (length (S .one)) 0 && eqb (length (S .two)) 0) 4 ++
-    refuse (crowded S one || crowded S two) 5 ++
+    refuse (crowded S one || crowded S two) 5
+
+-- then what its trains settle; `places` is the departures' length
+unfoldable pub train-refusals : Section → ℕ → List Refusal
+train-refusals S places =
     naming 6 (those (λ x. not (aim S .good (x .figures))) (trains S)) ++
     refuse (not (eqb places (count S))) 7
+
+unfoldable pub refusals : Section → ℕ → List Refusal
+refusals S places = call-refusals S ++ train-refusals S places
 
 -- the judge: those, and what is wrong with the recorded departures
 unfoldable pub judge-refusals : Section → List ℕ → List Refusal

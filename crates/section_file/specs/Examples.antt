@@ -11,7 +11,7 @@ use Rattle.rules.specs.Trains.{aim, count-at, count, train-at, trains-at, train
 use Rattle.rules.specs.Safe.{in-order, keeps, conflicts}
 use Rattle.rules.specs.Value.{cost-of, value}
 use Rattle.rules.specs.Orders.{station-order, schedule, by-number, departures-of, value-of, best-order, best-value, plan}
-use Rattle.rules.specs.Refusals.{refuse, naming, naming-two, known, ragged, crowded, refusals, judge-refusals}
+use Rattle.rules.specs.Refusals.{refuse, naming, naming-two, known, ragged, crowded, call-refusals, train-refusals, refusals, judge-refusals}
 use Rattle.rules.specs.Answers.{planner-answers, judge-answers}
 use Rattle.text.specs.Bytes.{bytes}
 use Rattle.text.specs.Words.{parts, words}
@@ -56,7 +56,7 @@ unfolding good-running good-headway good-timing running arrival apart
     figure within larger lateness weighted by-rows aim-of
     aim count-at count train-at trains-at trains runs in-order keeps conflicts cost-of value
     station-order schedule by-number departures-of value-of best-order best-value plan
-    refuse naming naming-two known ragged crowded refusals judge-refusals planner-answers judge-answers
+    refuse naming naming-two known ragged crowded call-refusals train-refusals refusals judge-refusals planner-answers judge-answers
     parts words digit amount positive negative numbers decimal laid-out
     planned judged refused-word unreadable-word train-line read answer examples
 answered-by-hand = refl

@@ -1,4 +1,4 @@
--- `refusals::both_empty` meets its contract.
+-- Two lists are empty where both lengths are 0.
 use borrow.Author.Tests.{eq-eqb, ne-eqb}
 use Rattle.refusals.proofs.both_empty.Statement.{statement}
 use Rattle.refusals.proofs.both_empty.Tie as tie

@@ -1,4 +1,4 @@
--- `refusals::call_refusal` meets its contract.
+-- Each test that passes leaves the list of refusals to those after it.
 use mathlib.Core.Bool.{_&&_, _||_}
 use mathlib.Core.List.{_++_}
 use mathlib.Core.Path.{_≡_}
@@ -6,11 +6,10 @@ use denote.Ref.{now}
 use lib.Dec.{eqb}
 use lib.ListN.{length}
 use Rattle.rules.specs.Line.{one, two}
-use Rattle.rules.specs.Trains.{Section, aim, count-at}
-use Rattle.rules.specs.Refusals.{refuse, ragged, crowded}
+use Rattle.rules.specs.Trains.{Section, asked, aim, count-at}
+use Rattle.rules.specs.Refusals.{refuse, ragged, crowded, call-refusals}
 use Rattle.rules.specs.Answers.{says}
-use Rattle.rules.specs.Trains.{asked}
-use Rattle.refusals.specs.Parts.{call-refusals, trains-in}
+use Rattle.refusals.specs.Trains.{trains-in}
 use Rattle.refusals.proofs.call_refusal.Statement.{statement}
 use Rattle.refusals.proofs.call_refusal.Tie as tie
 

@@ -1,4 +1,4 @@
--- `refusals::crowded` meets its contract.
+-- More trains than the objective allows.
 use Rattle.refusals.proofs.crowded.Statement.{statement}
 use Rattle.refusals.proofs.crowded.Tie as tie
 

@@ -1,4 +1,4 @@
--- `refusals::first_bad` meets its contract.
+-- The loop's invariant: what is left to seek is what all was.
 use borrow.Author.Needs.{needs}
 use mathlib.Core.Path.{_≡_, sym, _∙_}
 use Prim.Native.Nat.{_+_, _*_, _≤_, _-_}
@@ -7,7 +7,7 @@ use native.Mathlib.Nat.{sub-zero, add-sub-cancel-left}
 use native.Mathlib.Omega.{arith}
 use lib.ListN.{length}
 use Rattle.refusals.specs.Seek.{seek}
-use Rattle.refusals.specs.Parts.{trains-in, bad-at, first-bad}
+use Rattle.refusals.specs.Trains.{trains-in, bad-at, first-bad}
 use Rattle.refusals.proofs.Seek.{found, goes-on, ends}
 use Rattle.refusals.proofs.Table.{train-within}
 use Rattle.refusals.proofs.first_bad.Statement.{statement}

@@ -1,4 +1,4 @@
--- `refusals::good_timing` meets its contract.
+-- Each test settles one bound of the timing.
 use borrow.Author.Tests.{le-leb, lt-leb}
 use borrow.Author.Needs.{needs}
 use native.Mathlib.Omega.{arith}

@@ -1,4 +1,4 @@
--- `refusals::known_objective` meets its contract.
+-- Both bounds of the objective.
 use borrow.Author.Tests.{le-leb, lt-leb}
 use Rattle.rules.specs.Refusals.{known}
 use Rattle.refusals.proofs.known_objective.Statement.{statement}

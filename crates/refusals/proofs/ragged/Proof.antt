@@ -1,4 +1,4 @@
--- `refusals::ragged` meets its contract.
+-- A remainder is left.
 use Rattle.refusals.proofs.Table.{numbers-positive}
 use Rattle.refusals.proofs.ragged.Statement.{statement}
 use Rattle.refusals.proofs.ragged.Tie as tie

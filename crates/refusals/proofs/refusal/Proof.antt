@@ -1,14 +1,13 @@
--- `refusals::refusal` meets its contract.
+-- A refusal of the call stands; where there is none, the trains settle the answer.
 use borrow.Author.Needs.{needs}
 use denote.Ref.{now}
 use mathlib.Core.List.{[]}
 use mathlib.Core.Path.{_≡_}
 use lib.IntN.{pos}
 use Rattle.rules.specs.Line.{one, two}
-use Rattle.rules.specs.Trains.{Section}
-use Rattle.rules.specs.Trains.{asked}
-use Rattle.refusals.specs.Parts.{call-refusals, train-refusals}
-use Rattle.refusals.proofs.Parts.{refusals-parts, stands, nothing-refused, few-trains}
+use Rattle.rules.specs.Trains.{Section, asked}
+use Rattle.rules.specs.Refusals.{call-refusals, train-refusals, refusals}
+use Rattle.refusals.proofs.Parts.{stands, nothing-refused, few-trains}
 use Rattle.refusals.proofs.refusal.Statement.{statement}
 use Rattle.refusals.proofs.refusal.Tie as tie
 
@@ -25,16 +24,16 @@ enum-told-2 : tie.Need-enum-told-2
 enum-told-2 c = search needs
 
 returns : tie.Need-returns
+unfolding refusals
 returns c =
-    rw refusals-parts
-    (stands
+    stands
     (c .before .before .call-refusal .result)
     (pos 0)
     (call-refusals (called (c .before .before .before)))
     (train-refusals (called (c .before .before .before)) (c .before .before .before .args .places))
     (pos 0)
     (c .enum-told2 .given .1)
-    (c .before .before .call-refusal .ensures))
+    (c .before .before .call-refusal .ensures)
 
 -- no refusal of the first part
 none-of-call : (c : tie.After-enum-told) → call-refusals (called (c .before .before .before)) ≡ []
@@ -53,8 +52,9 @@ train-refusal-requires c κs = (
 )
 
 returns-2 : tie.Need-returns-2
+unfolding refusals
 returns-2 c =
-    rw (refusals-parts, none-of-call (c .before))
+    rw (none-of-call (c .before))
     (c .train-refusal .ensures (c .before .before .before .before .args .timing))
 
 pub refusal-spec : {M : Type 1} → statement M

@@ -1,4 +1,4 @@
--- `refusals::train_refusal` meets its contract.
+-- The first bad train of station 1, else of station 2, else the count of departures.
 use borrow.Author.Needs.{needs}
 use mathlib.Core.Path.{sym, _∙_, ap}
 use native.Mathlib.Omega.{arith}

@@ -1,5 +1,5 @@
--- `refusals::trains_in` meets its contract.
-use Rattle.refusals.specs.Parts.{trains-in}
+-- The length, by the numbers a train.
+use Rattle.refusals.specs.Trains.{trains-in}
 use Rattle.refusals.proofs.Table.{numbers-positive}
 use Rattle.refusals.proofs.trains_in.Statement.{statement}
 use Rattle.refusals.proofs.trains_in.Tie as tie
