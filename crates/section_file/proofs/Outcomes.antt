@@ -1,4 +1,4 @@
--- What is told of an answer is what is to be printed of it: of a refusal its line, of a value the lines of all trains.
+-- What is put of an answer is what is to be printed of it: of a refusal its line, of a value the lines of all trains.
 use mathlib.Core.Bool.{true, cond}
 use mathlib.Core.List.{List, [], _∷_, _++_, map}
 use mathlib.Core.Path.{_≡_, refl, sym, _∙_, ap, ap₂}
@@ -22,13 +22,13 @@ use Rattle.best.proofs.Numbers.{trains-count}
 use Rattle.refusals.proofs.Table.{most-bound}
 use Rattle.section_file.specs.Lines.{train-line, all-lines, printed}
 use Rattle.section_file.specs.Page.{Put}
-use Rattle.section_file.specs.Printing.{lines-of, told}
+use Rattle.section_file.specs.Printing.{lines-of, printed-with}
 use Rattle.section_file.proofs.TrainLines.{lines-are}
 
-pub told-is : (word : List ℕ) (S : Section) (v : Verdict) (departures trains : List ℕ)
-    → ((x : ℤ) → v ≡ value-is x → trains ≡ all-lines (map (train-line S) (runs S departures))) → told word v trains ≡ printed word S v departures
-told-is word S (value-is x) departures trains same = ap (told word (value-is x)) (same x refl)
-told-is word S (refused n i j) departures trains same = refl
+pub with-lines : (word : List ℕ) (S : Section) (v : Verdict) (departures trains : List ℕ)
+    → ((x : ℤ) → v ≡ value-is x → trains ≡ all-lines (map (train-line S) (runs S departures))) → printed-with word v trains ≡ printed word S v departures
+with-lines word S (value-is x) departures trains same = ap (printed-with word (value-is x)) (same x refl)
+with-lines word S (refused n i j) departures trains same = refl
 
 -- a value says that nothing is refused
 nothing-left : (rs : List Refusal) (v x : ℤ) → verdict rs v ≡ value-is x → rs ≡ []
@@ -65,14 +65,14 @@ module _ (S : Section) where
   unfolding plan departures-of by-number
   plan-count = length-map (trains S) _ ∙ trains-count S
 
-  pub plan-told : (word before : List ℕ) → length before ≡ count S
-      → told word (planner-answers S (length before)) (lines-of (S .timing) (count-at S one) (take (shown (length before)) (planner-leaves S before)))
+  pub plan-printed : (word before : List ℕ) → length before ≡ count S
+      → printed-with word (planner-answers S (length before)) (lines-of (S .timing) (count-at S one) (take (shown (length before)) (planner-leaves S before)))
       ≡ printed word S (planner-answers S (count S)) (plan S)
   unfolding planner-answers planner-leaves
-  plan-told word before all =
+  plan-printed word before all =
       let trains : List ℕ = lines-of (S .timing) (count-at S one) (take (shown (length before)) (planner-leaves S before)) in
-      ap (λ n. told word (planner-answers S n) trains) all
-      ∙ told-is word S (planner-answers S (count S)) (plan S) trains
+      ap (λ n. printed-with word (planner-answers S n) trains) all
+      ∙ with-lines word S (planner-answers S (count S)) (plan S) trains
       (λ x e.
       let none : refusals S (count S) ≡ [] = nothing-left _ _ x e in
       let here : refusals S (length before) ≡ [] = ap (refusals S) all ∙ none in
@@ -81,12 +81,12 @@ module _ (S : Section) where
       ap₂ (λ b rs. take (cond b (length before) 0) (written rs (plan S) before)) within here ∙ ap (λ n. take n (plan S)) (all ∙ sym plan-count) ∙ take-length (plan S) in
       ap (lines-of (S .timing) (count-at S one)) first ∙ lines-are S (plan S) plan-count)
 
-  pub judge-told : (word departures : List ℕ)
-      → told word (judge-answers S departures) (lines-of (S .timing) (count-at S one) (take (shown (length departures)) departures))
+  pub judge-printed : (word departures : List ℕ)
+      → printed-with word (judge-answers S departures) (lines-of (S .timing) (count-at S one) (take (shown (length departures)) departures))
       ≡ printed word S (judge-answers S departures) departures
   unfolding judge-answers judge-refusals
-  judge-told word departures =
-      told-is word S (judge-answers S departures) departures _
+  judge-printed word departures =
+      with-lines word S (judge-answers S departures) departures _
       (λ x e.
       let none : refusals S (length departures) ≡ [] = first-empty _ _ (first-empty _ _ (nothing-left _ _ x e)) in
       all-shown (length departures) none departures (accepted-places S (length departures) none))
@@ -94,13 +94,13 @@ module _ (S : Section) where
   -- what is put, by the numbers that the code has found
   module _ {page page′ : List ℕ} {r ones k : ℕ} {v : Verdict} (first : ones ≡ count-at S one) where
     pub judge-put : (word departures : List ℕ) → k ≡ shown (length departures) → v ≡ judge-answers S departures
-        → Put page 0 (told word v (lines-of (S .timing) ones (take k departures))) page′ r → Put page 0 (printed word S (judge-answers S departures) departures) page′ r
-    judge-put word departures some said p = rw (first, some, said, judge-told word departures) at p
+        → Put page 0 (printed-with word v (lines-of (S .timing) ones (take k departures))) page′ r → Put page 0 (printed word S (judge-answers S departures) departures) page′ r
+    judge-put word departures some said p = rw (first, some, said, judge-printed word departures) at p
 
     pub plan-put : (word before after : List ℕ) → length before ≡ count S → k ≡ shown (length before) → v ≡ planner-answers S (length before)
-        → after ≡ planner-leaves S before → Put page 0 (told word v (lines-of (S .timing) ones (take k after))) page′ r
+        → after ≡ planner-leaves S before → Put page 0 (printed-with word v (lines-of (S .timing) ones (take k after))) page′ r
         → Put page 0 (printed word S (planner-answers S (count S)) (plan S)) page′ r
-    plan-put word before after all some said left p = rw (first, some, said, left, plan-told word before all) at p
+    plan-put word before after all some said left p = rw (first, some, said, left, plan-printed word before all) at p
 
 -- how many trains a station has
 pub trains-found : (objective : ℕ) (t : Timing) (list list′ : List ℤ) {numbers : ℕ} → numbers ≡ aim-of objective .numbers

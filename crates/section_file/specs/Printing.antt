@@ -27,6 +27,6 @@ unfoldable pub lines-of : Timing → ℕ → List ℕ → List ℕ
 lines-of t ones departures = all-lines (map (λ k. kth-line t ones k (getD departures k 0)) (count-from 0 (length departures)))
 
 -- an answer's lines, where those of the trains are known
-abbrev pub told : List ℕ → Verdict → List ℕ → List ℕ
-told word (value-is v) trains = line (word ∷ signed v ∷ []) ++ trains
-told word (refused number first second) trains = line (refused-word ∷ signed (pos number) ∷ signed (pos first) ∷ signed (pos second) ∷ [])
+abbrev pub printed-with : List ℕ → Verdict → List ℕ → List ℕ
+printed-with word (value-is v) trains = line (word ∷ signed v ∷ []) ++ trains
+printed-with word (refused number first second) trains = line (refused-word ∷ signed (pos number) ∷ signed (pos first) ∷ signed (pos second) ∷ [])

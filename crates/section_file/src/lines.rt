@@ -13,7 +13,7 @@ ghost use Rattle.rules.specs.Answers.{value-is, refused, says};
 ghost use Rattle.text.specs.Written.{signed};
 ghost use Rattle.section_file.specs.Lines.{line};
 ghost use Rattle.section_file.specs.Page.{Put};
-ghost use Rattle.section_file.specs.Printing.{kth-line, lines-of, told};
+ghost use Rattle.section_file.specs.Printing.{kth-line, lines-of, printed-with};
 
 // Puts a space and a number.
 fn put_field(page: &mut [u8; 8192], at: usize, n: i64) -> usize
@@ -103,7 +103,7 @@ fn put_value(
 ) -> usize
     requires { ⌜ length (now page) ≡ 8192 ⌝ }
     requires { ⌜ (length (now word) ≤ 7) × (length (now departures) ≤ 96) ⌝ }
-    ensures { λ r. ⌜ Put (now (page .entry)) 0 (told (now (word .entry)) (value-is value) (lines-of timing ones (now (departures .entry)))) (now (page .exit)) r ⌝ }
+    ensures { λ r. ⌜ Put (now (page .entry)) 0 (printed-with (now (word .entry)) (value-is value) (lines-of timing ones (now (departures .entry)))) (now (page .exit)) r ⌝ }
 {
     let named = page::put(page, 0, word);
     let valued = put_field(page, named, value);
@@ -114,7 +114,7 @@ fn put_value(
 // Puts a refusal as a line.
 fn put_refusal(page: &mut [u8; 8192], number: u32, first: u32, second: u32) -> usize
     requires { ⌜ length (now page) ≡ 8192 ⌝ }
-    ensures { λ r. ⌜ Put (now (page .entry)) 0 (told [] (refused number first second) []) (now (page .exit)) r ⌝ }
+    ensures { λ r. ⌜ Put (now (page .entry)) 0 (printed-with [] (refused number first second) []) (now (page .exit)) r ⌝ }
 {
     let named = page::put(page, 0, b"refused");
     put_three(page, named, number as i64, first as i64, second as i64)
@@ -131,7 +131,7 @@ pub fn put_answer(
 ) -> usize
     requires { ⌜ length (now page) ≡ 8192 ⌝ }
     requires { ⌜ (length (now word) ≤ 7) × (length (now departures) ≤ 96) ⌝ }
-    ensures { λ r. ⌜ Put (now (page .entry)) 0 (told (now (word .entry)) (says answer) (lines-of timing ones (now (departures .entry)))) (now (page .exit)) r ⌝ }
+    ensures { λ r. ⌜ Put (now (page .entry)) 0 (printed-with (now (word .entry)) (says answer) (lines-of timing ones (now (departures .entry)))) (now (page .exit)) r ⌝ }
 {
     let outcome = answer.outcome;
     match outcome {

@@ -7,8 +7,7 @@ use native.Mathlib.Omega.{arith}
 use mathlib.Core.Path.{_≡_, refl, _∙_, ap}
 use mathlib.Core.Logic.{_⊎_, inl, inr, ⊎-elim, by-cases}
 use lib.Dec.{T, not-T, ltb, leb→le, le→leb, ltb→lt, nltb→le}
-use lib.IntN.{ℤ, pos, negsuc, negℤ, subℕ, _+ℤ_, _-ℤ_, _*ℤ_}
-use lib.IntN.{+ℤ-assoc, +ℤ-comm, +ℤ-idl, +ℤ-idr, +ℤ-invr, sucℤ-*ℤ, *ℤ-comm, zero-*ℤ}
+use lib.IntN.{ℤ, pos, negsuc, negℤ, subℕ, _+ℤ_, _-ℤ_, _*ℤ_, +ℤ-assoc, +ℤ-comm, +ℤ-idl, +ℤ-idr, +ℤ-invr, sucℤ-*ℤ, *ℤ-comm, zero-*ℤ}
 use lib.Signed.{_≤ℤ_, leZ, leZ-yes, ≤ℤ-refl}
 use Rattle.theory.specs.Values.{Ordered}
 use Rattle.theory.specs.Integers.{maxℤ, Grade, nothing, at, Below, larger, sum, largest}

@@ -15,8 +15,7 @@ fn print_signed(n: i64) {
 
 // Writes a space and a number.
 fn print_number(n: u32) {
-    io::write_all(1, b" ");
-    io::print_decimal(1, n as u64);
+    print_signed(n as i64);
 }
 
 // Writes a case's letter and its answer: the value; or `refused`, the number and the two places.

@@ -1,4 +1,4 @@
--- `costs::cost` meets its contract: each cost fits, and is that of its objective's row of the table.
+-- Each cost fits, and is that of its objective's row of the table.
 use borrow.Author.Needs.{needs, sfits-of}
 use mir.Facts.{toZ-ofZ}
 use mir.Syntax.{w32, w64}

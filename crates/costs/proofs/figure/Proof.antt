@@ -1,4 +1,4 @@
--- `costs::figure` meets its contract.
+-- Inside the list the element, past its end 0.
 use borrow.Author.Needs.{needs}
 use lib.IntN.{pos}
 use lib.ListN.{List·getD-eq-default}

@@ -1,4 +1,4 @@
--- `costs::good` meets its contract.
+-- Each objective has its rule.
 use borrow.Author.Needs.{needs}
 use Rattle.rules.specs.Objectives.{lateness, weighted, by-rows}
 use Rattle.costs.proofs.Ranges.{read-back}

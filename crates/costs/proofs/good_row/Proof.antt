@@ -1,4 +1,4 @@
--- `costs::good_row` meets its contract: its tests are those of the rule.
+-- The first step's tests and the other steps' are together the rule of a row.
 use borrow.Author.Needs.{needs}
 use Rattle.costs.proofs.Ranges.{read-back}
 use Rattle.costs.proofs.Rows.{good-row-tests}

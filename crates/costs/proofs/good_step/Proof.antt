@@ -1,4 +1,4 @@
--- `costs::good_step` meets its contract: on each side its tests are those of the rule.
+-- For a used step, and for any other, the tests are those of the rule.
 use borrow.Author.Needs.{needs}
 use borrow.Author.Tests.{lt-ltb, le-ltb}
 use Rattle.rules.specs.Figures.{is-zero}

@@ -1,4 +1,4 @@
--- `costs::good_steps` meets its contract. The loop's invariant: the steps that are left decide what all of them do.
+-- The loop's invariant: the steps that are left decide what all of them do.
 use borrow.Author.Needs.{needs}
 use borrow.Author.Tests.{not-true, not-false}
 use mathlib.Core.Bool.{_&&_}

@@ -1,4 +1,4 @@
--- `costs::joined` meets its contract.
+-- Sums fit as the caller says; the larger of two numbers always does.
 use borrow.Author.Needs.{needs, sfits-of}
 use mir.Facts.{toZ-ofZ}
 use mir.Syntax.{w64}

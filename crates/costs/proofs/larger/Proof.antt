@@ -1,4 +1,4 @@
--- `costs::larger` meets its contract.
+-- The larger of two numbers, either way round.
 use mir.Facts.{toZ-ofZ}
 use Rattle.rules.specs.Objectives.{larger}
 use Rattle.costs.proofs.larger.Statement.{statement}

@@ -1,4 +1,4 @@
--- `costs::listed` meets its contract.
+-- All objectives but 1 and 2 keep list order.
 use mathlib.Core.Path.{sym}
 use Rattle.costs.proofs.Table.{listed-by}
 use Rattle.costs.proofs.listed.Statement.{statement}

@@ -1,4 +1,4 @@
--- `costs::most` meets its contract.
+-- 12 trains with rows, 48 without.
 use borrow.Author.Needs.{needs}
 use Rattle.costs.proofs.Table.{most-listed}
 use Rattle.costs.proofs.most.Statement.{statement}

@@ -1,4 +1,4 @@
--- `costs::numbers` meets its contract.
+-- 17 numbers with rows, 1 without.
 use borrow.Author.Needs.{needs}
 use Rattle.costs.proofs.Table.{numbers-listed}
 use Rattle.costs.proofs.numbers.Statement.{statement}

@@ -1,4 +1,4 @@
--- `costs::row_cost` meets its contract. The loop's invariant: the steps up to `k` cost what the row does.
+-- The loop's invariant: the steps up to `k` cost what the row does.
 use borrow.Author.Needs.{needs}
 use mathlib.Core.Bool.{cond}
 use mathlib.Core.Path.{_≡_, sym, _∙_}

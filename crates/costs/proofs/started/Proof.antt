@@ -1,4 +1,4 @@
--- `costs::started` meets its contract.
+-- A start is compared as it is, an arrival as a number that is not negative.
 use borrow.Author.Needs.{needs}
 use mir.Facts.{toZ-ofZ}
 use Rattle.costs.proofs.Ranges.{wide, widened, unsigned}

@@ -1,4 +1,4 @@
--- `costs::steps_used` meets its contract. The two tests are restated over the step count itself, and then its size is known at each return.
+-- The two tests are restated over the step count itself, and then its size is known at each return.
 use borrow.Author.Needs.{needs}
 use mathlib.Core.Path.{_≡_}
 use mir.Facts.{toZ-ofZ, toZ-pos}

@@ -1,4 +1,4 @@
--- `costs::within` meets its contract.
+-- Both bounds hold, or one of them does not.
 use mir.Facts.{toZ-ofZ}
 use Rattle.rules.specs.Figures.{within}
 use Rattle.costs.proofs.within.Statement.{statement}

@@ -1,8 +1,7 @@
 -- A refusal of the call stands; else the rest is judged.
 use borrow.Author.Needs.{needs}
 use lib.IntN.{pos}
-use Rattle.rules.specs.Trains.{Section}
-use Rattle.rules.specs.Trains.{asked}
+use Rattle.rules.specs.Trains.{Section, asked}
 use Rattle.refusals.proofs.Parts.{nothing-refused}
 use Rattle.judge.proofs.Verdicts.{call-refused}
 use Rattle.judge.proofs.judge.Statement.{statement}

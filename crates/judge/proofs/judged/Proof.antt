@@ -9,9 +9,8 @@ use lib.ListN.{length}
 use mir.Facts.{toZ-ofZ}
 use Rattle.rules.specs.declared.Timing.{Timing}
 use Rattle.rules.specs.Line.{one, two}
-use Rattle.rules.specs.Trains.{Section, aim, count-at, count}
+use Rattle.rules.specs.Trains.{Section, aim, count-at, count, asked}
 use Rattle.rules.specs.Answers.{says, judge-answers}
-use Rattle.rules.specs.Trains.{asked}
 use Rattle.refusals.proofs.Table.{numbers-positive, most-bound}
 use Rattle.best.proofs.Accepted.{Accepted, accepted, accepted-places}
 use Rattle.judge.specs.Conflicts.{first-late, Found}

@@ -1,4 +1,4 @@
--- `worked::print_departures` ends: each turn leaves fewer departures to write.
+-- The loop ends: each turn leaves fewer departures to write.
 use borrow.Author.Needs.{needs}
 use Prim.Native.Nat.{_≤_, _-_}
 use lib.ListN.{length}

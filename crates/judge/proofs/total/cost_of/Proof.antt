@@ -1,8 +1,7 @@
 -- The train is one of station 1's or of station 2's, as the test says.
 use borrow.Author.Needs.{needs, sfits-of}
 use mir.Facts.{toZ-ofZ}
-use Rattle.rules.specs.Trains.{Section, aim}
-use Rattle.rules.specs.Trains.{asked}
+use Rattle.rules.specs.Trains.{Section, aim, asked}
 use Rattle.judge.proofs.Costs.{one-within, cost-one, two-within, cost-two}
 use Rattle.judge.proofs.total.cost_of.Statement.{statement}
 use Rattle.judge.proofs.total.cost_of.Tie as tie

@@ -8,9 +8,8 @@ use mir.Syntax.{w64}
 use mir.Val.{toZ}
 use lib.Signed.{mag}
 use lib.ListN.{length}
-use Rattle.rules.specs.Trains.{Section, aim, count}
+use Rattle.rules.specs.Trains.{Section, aim, count, asked}
 use Rattle.rules.specs.Value.{value}
-use Rattle.rules.specs.Trains.{asked}
 use Rattle.costs.proofs.Bounds.{joined-fits, joined-small}
 use Rattle.judge.proofs.Totals.{from, starts, turns, ends}
 use Rattle.judge.proofs.total.total.Statement.{statement}

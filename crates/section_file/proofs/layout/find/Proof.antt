@@ -1,4 +1,4 @@
--- `layout::find` meets its contract. The four sections are told one after the other, and then each return has its law.
+-- The four sections are told one after the other, and then each return has its law.
 use borrow.Author.Needs.{needs}
 use mathlib.Core.Bool.{Bool, true, false}
 use mathlib.Core.List.{List}

@@ -1,4 +1,4 @@
--- `layout::section` meets its contract.
+-- A section is told by its count, and read where there are as many numbers.
 use borrow.Author.Needs.{needs}
 use mathlib.Core.Bool.{false}
 use mathlib.Core.Path.{_≡_}

@@ -1,4 +1,4 @@
--- `layout::unsigned` meets its contract. The loop's invariant: what is left decides what all numbers do.
+-- The loop's invariant: what is left decides what all numbers do.
 use borrow.Author.Needs.{needs}
 use mathlib.Core.Path.{_≡_, refl, sym, _∙_}
 use native.Mathlib.Omega.{arith}

@@ -1,4 +1,4 @@
--- `section_file::page::put` meets its contract. The loop's invariant: the bytes so far stand after the first `at`.
+-- The loop's invariant: the bytes so far stand after the first `at`.
 use mathlib.Core.List.{List, _++_, append-assoc, append-nil}
 use mathlib.Core.Path.{_≡_, refl, _∙_}
 use native.Mathlib.Nat.{add-zero, add-suc}

@@ -1,4 +1,4 @@
--- `section_file::page::put_number` meets its contract: the bytes that are put are those that the number is written with.
+-- The bytes that are put are those that the number is written with.
 use borrow.Author.Needs.{needs}
 use mathlib.Core.Path.{_≡_, sym}
 use mir.Facts.{toZ-ofZ}

@@ -1,4 +1,4 @@
--- `text::read::all_digits` meets its contract. The loop's invariant: what is left of the word decides what the whole word does.
+-- The loop's invariant: what is left of the word decides what the whole word does.
 use borrow.Author.Needs.{needs}
 use borrow.Author.Tests.{not-true, not-false}
 use mathlib.Core.Path.{_≡_, refl}

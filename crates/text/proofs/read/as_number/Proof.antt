@@ -1,4 +1,4 @@
--- `text::read::as_number` meets its contract.
+-- A word is a negative number, a positive one, or none.
 use borrow.Author.Needs.{needs}
 use borrow.Author.Tests.{eq-eqb, ne-eqb}
 use mathlib.Core.List.{List, [], _∷_}

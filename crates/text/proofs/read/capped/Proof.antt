@@ -1,4 +1,4 @@
--- `text::read::capped` meets its contract. The loop's invariant: what is left of the word brings the amount so far to the word's.
+-- The loop's invariant: what is left of the word brings the amount so far to the word's.
 use borrow.Author.Needs.{needs}
 use mathlib.Core.Path.{_≡_, refl}
 use Prim.Native.Nat.{_≤_, _-_, _*_, _+_}

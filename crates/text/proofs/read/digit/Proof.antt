@@ -1,4 +1,4 @@
--- `text::read::digit` meets its contract.
+-- A digit is a byte from 48 to 57.
 use borrow.Author.Needs.{needs}
 use Rattle.text.specs.Numbers.{digit}
 use Rattle.text.proofs.read.digit.Statement.{statement}

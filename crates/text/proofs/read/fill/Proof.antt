@@ -1,4 +1,4 @@
--- `text::read::fill` meets its contract. The loop's invariant: the values stored and the numbers from here on are the text's.
+-- The loop's invariant: the values stored and the numbers from here on are the text's.
 use borrow.Author.Needs.{needs, sfits-of}
 use mathlib.Core.Logic.{⊎-elim}
 use mathlib.Core.Path.{_≡_, sym, _∙_}

@@ -1,4 +1,4 @@
--- `text::read::negative` meets its contract: the amount, where the word is a number, is the capped one, and fits below 0.
+-- The amount, where the word is a number, is the capped one, and fits below 0.
 use borrow.Author.Needs.{needs, sfits-of}
 use lib.Dec.{T, leb→le}
 use lib.IntN.{pos, negℤ, +ℤ-idl}

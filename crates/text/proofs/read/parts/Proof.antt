@@ -1,4 +1,4 @@
--- `text::read::parts` meets its contract.
+-- A byte parts words where it is a space or a line end.
 use borrow.Author.Needs.{needs}
 use Rattle.text.specs.Words.{parts}
 use Rattle.text.proofs.read.parts.Statement.{statement}

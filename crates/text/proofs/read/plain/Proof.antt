@@ -1,4 +1,4 @@
--- `text::read::plain` meets its contract.
+-- A plain word is not empty, has digits alone, and no leading zero unless it is 0.
 use borrow.Author.Needs.{needs}
 use mathlib.Core.Bool.{false, _&&_, _||_, not}
 use mathlib.Core.List.{List, [], _∷_}

@@ -1,4 +1,4 @@
--- `text::read::positive` meets its contract: the amount, where the word is a number, is the capped one and fits.
+-- The amount, where the word is a number, is the capped one and fits.
 use borrow.Author.Needs.{needs, sfits-of}
 use lib.Dec.{T, leb→le}
 use mathlib.Core.Path.{sym, subst}

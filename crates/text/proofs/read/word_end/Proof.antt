@@ -1,4 +1,4 @@
--- `text::read::word_end` meets its contract. The loop's invariant: the word's end, looked for from here on, is the end looked for.
+-- The loop's invariant: the word's end, looked for from here on, is the end looked for.
 use borrow.Author.Needs.{needs}
 use mathlib.Core.Path.{_≡_, refl}
 use Prim.Native.Nat.{_+_, _-_}

@@ -1,4 +1,4 @@
--- `text::write::magnitude` meets its contract: of a negative n, -1 - n is not negative, and one more than it fits.
+-- Of a negative n, -1 - n is not negative, and one more than it fits.
 use borrow.Author.Needs.{needs}
 use mathlib.Core.Path.{_≡_}
 use mir.Facts.{toZ-ofZ, fits-natAbs}

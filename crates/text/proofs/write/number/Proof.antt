@@ -1,4 +1,4 @@
--- `text::write::number` meets its contract: a minus where it is below 0, then the digits of the number without its sign.
+-- A minus where the number is below 0, then its digits without the sign.
 use borrow.Author.Needs.{needs}
 use mathlib.Core.Path.{_≡_}
 use mir.Facts.{toZ-ofZ}

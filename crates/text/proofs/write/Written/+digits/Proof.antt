@@ -1,4 +1,4 @@
--- `text::write::Written::digits` meets its contract, and ends: a tenth of a number from 10 on is less.
+-- The recursion ends: a tenth of a number from 10 on is less.
 use borrow.Author.Needs.{needs}
 use borrow.Fn.Kinds.{In}
 use borrow.Fn.PlainCycle.{Measures, is, falls, and}

@@ -1,4 +1,4 @@
--- `text::write::Written::byte` meets its contract: the byte stands after those that are written.
+-- The byte stands after those that are written.
 use borrow.Author.Needs.{needs}
 use native.Mathlib.Numerals.{add-one}
 use Prim.Native.Nat.{_<_}
