@@ -88,6 +88,14 @@ fn largest_inputs() -> Vec<(&'static str, Vec<u8>)> {
     ]
 }
 
+#[test]
+fn the_largest_inputs_are_answered_with_256_kib() {
+    for (name, text) in largest_inputs() {
+        let answer = program::answer_within(256, &text);
+        assert_eq!(answer.ok(), Some(page::answer_text(&text)), "{name}");
+    }
+}
+
 fn full_rows(objective: u32) -> Vec<u8> {
     let section = Section {
         objective,

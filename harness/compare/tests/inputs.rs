@@ -6,6 +6,7 @@ use compare::inputs::any_input;
 use compare::random::Random;
 use compare::sections::{most_trains_a_station, section_of};
 use compare::tally::Tally;
+use page::Section;
 
 fn check_all(inputs: impl Iterator<Item = Input>) -> Tally {
     let mut tally = Tally::default();
@@ -37,5 +38,25 @@ fn the_largest_sections_agree() {
         let most = most_trains_a_station(objective);
         let section = section_of(&mut random, objective, most, most);
         check_all(std::iter::once(Input::Plan(section, vec![7; 2 * most])));
+    }
+}
+
+#[test]
+fn lists_of_millions_of_numbers_agree() {
+    let lengths = [(5_000_000, 0), (0, 5_000_000), (1_700_000, 1_700_000)];
+    for (objective, (one, two)) in (0..=5).flat_map(|o| lengths.map(|l| (o, l))) {
+        let section = Section {
+            objective,
+            running: 10,
+            headway: 2,
+            one: vec![1; one],
+            two: vec![1; two],
+        };
+        let recorded = vec![7; 3_400_000];
+        let calls = [
+            Input::Plan(section.clone(), recorded.clone()),
+            Input::Judge(section, recorded),
+        ];
+        check_all(calls.into_iter());
     }
 }
