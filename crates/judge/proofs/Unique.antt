@@ -1,12 +1,8 @@
--- The judge's promise settles its answer: two answers that keep it are equal.
-use mathlib.Core.List.{List}
-use mathlib.Core.Path.{_≡_, sym, _∙_}
-use Prim.Native.Nat.{ℕ}
-use Rattle.rules.specs.declared.Answer.{Answer}
-use Rattle.rules.specs.Trains.{Section}
-use Rattle.rules.specs.Answers.{says, judge-answers}
+-- The judge's promise settles its answer.
+use mathlib.Core.Path.{sym, _∙_}
+use Rattle.promises.specs.Settles.{Settles}
 use Rattle.rules.proofs.Answers.{same-answer}
+use Rattle.judge.proofs.judge.Reads as judge
 
-pub one-answer : (S : Section) (departures : List ℕ) (a b : Answer)
-    → says a ≡ judge-answers S departures → says b ≡ judge-answers S departures → a ≡ b
-one-answer S departures a b p q = same-answer a b (p ∙ sym q)
+pub one-answer : Settles judge.Post
+one-answer κs args r r′ exit exit′ p q = same-answer r r′ (p ∙ sym q)

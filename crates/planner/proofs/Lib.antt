@@ -21,4 +21,5 @@ pub mod Strides
 pub mod Timetable
 pub mod Results
 pub mod Beginning
+pub mod Promise
 pub mod Unique

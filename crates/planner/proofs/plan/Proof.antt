@@ -6,7 +6,7 @@ use mir.Facts.{toZ-ofZ}
 use Rattle.rules.specs.Trains.{Section, asked}
 use Rattle.rules.specs.Answers.{value-is, says}
 use Rattle.refusals.proofs.Parts.{nothing-refused}
-use Rattle.planner.proofs.Unique.{promised, refused-call, planned-call}
+use Rattle.planner.proofs.Promise.{promised, refused-call, planned-call}
 use Rattle.planner.proofs.plan.Statement.{statement}
 use Rattle.planner.proofs.plan.Tie as tie
 

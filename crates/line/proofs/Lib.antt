@@ -1,0 +1,2 @@
+-- What the public promises leave open: nothing.
+pub mod Unique
