@@ -2,11 +2,11 @@
 -- `mag z` is n for n and for -(n + 1), the bound by which a number fits 64 bits.
 use mathlib.Core.Bool.{Bool}
 use mathlib.Core.List.{List, [], _∷_}
-use Prim.Native.Nat.{ℕ, zero, suc, _+_, _-_, _*_, _≤_, _<_}
+use Prim.Native.Nat.{ℕ, zero, suc, _+_, _*_, _≤_, _<_}
 use native.Mathlib.Nat.{mul-le-mul-right}
 use native.Mathlib.Omega.{arith}
-use lib.Dec.{T, ltb, leb→le}
-use lib.IntN.{ℤ, pos, negsuc, negℤ, subℕ, _+ℤ_, _*ℤ_}
+use lib.Dec.{T, leb→le}
+use lib.IntN.{ℤ, pos, negsuc, negℤ, _+ℤ_, _*ℤ_}
 use lib.Signed.{mag, leZ}
 use mir.Syntax.{w64}
 use mir.Val.{SFits}
@@ -15,11 +15,8 @@ use Rattle.rules.specs.Figures.{figure, within, Step, used, good-row, last-cost
 use Rattle.rules.specs.Objectives.{larger, lateness, weighted, by-rows, aim-of}
 use Rattle.rules.proofs.Tests.{both}
 use Rattle.costs.proofs.Table.{each}
+use Rattle.costs.proofs.Differences.{mag-difference}
 use Rattle.theory.proofs.Choices.{cond-ind}
-
-mag-difference : (a b : ℕ) → mag (subℕ a b) ≤ a + b
-mag-difference a b =
-    cond-ind (λ z. mag z ≤ a + b) (ltb a b) {a = negsuc (b - suc a)} {b = pos (a - b)} (λ t. omega arith) (λ t. omega arith)
 
 mag-sum : (a b : ℤ) → mag (a +ℤ b) ≤ mag a + mag b + 1
 mag-sum (pos a) (pos b) = omega arith

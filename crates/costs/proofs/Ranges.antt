@@ -1,16 +1,15 @@
 -- An i32 is read back from its bits, an i32 and a u32 as i64 are too, and their difference and their product fit.
 use borrow.Author.Needs.{sfits-of}
-use mathlib.Core.Bool.{Bool, true, false, cond}
 use mathlib.Core.Path.{_≡_}
 use mir.Syntax.{w32, w64}
 use mir.Facts.{toZ-ofZ, toZ-pos, sfits-widen}
 use mir.Val.{Fits, SFits, toZ, ofZ}
-use Prim.Native.Nat.{ℕ, zero, suc, _+_, _-_, _*_, _^_, _≤_, _<_}
+use Prim.Native.Nat.{ℕ, zero, suc, _-_, _*_, _^_, _≤_, _<_}
 use native.Mathlib.Nat.{mul-le-mul}
 use native.Mathlib.Omega.{arith}
-use lib.Dec.{ltb}
-use lib.IntN.{ℤ, pos, negsuc, negℤ, subℕ, _-ℤ_, _*ℤ_}
+use lib.IntN.{ℤ, pos, negsuc, negℤ, _-ℤ_, _*ℤ_}
 use lib.Signed.{mag}
+use Rattle.costs.proofs.Differences.{mag-difference}
 
 pub read-back : (z : ℤ) → mag z < 2 ^ 31 → toZ w32 (ofZ w32 z) ≡ z
 read-back z h = toZ-ofZ {w = w32} (sfits-of h)
@@ -28,16 +27,9 @@ mag-neg : (n : ℕ) → mag (negℤ (pos n)) ≤ n
 mag-neg zero = omega arith
 mag-neg (suc n) = omega arith
 
-mag-sub : (a b : ℕ) → mag (subℕ a b) ≤ a + b
-mag-sub a b = by-test (ltb a b)
-  where
-    by-test : (t : Bool) → mag (cond t (negsuc (b - suc a)) (pos (a - b))) ≤ a + b
-    by-test true = omega arith
-    by-test false = omega arith
-
 pub difference-fits : {a : ℕ} (z : ℤ) → Fits w32 a → SFits w32 z → SFits w64 (pos a -ℤ z)
 difference-fits (pos zero) f g = omega arith
-difference-fits {a} (pos (suc n)) f g = omega (arith, mag-sub a (suc n))
+difference-fits {a} (pos (suc n)) f g = omega (arith, mag-difference a (suc n))
 difference-fits (negsuc n) f g = omega arith
 
 product-bound : {m n : ℕ} → m ≤ 2 ^ 31 → n ≤ 2 ^ 32 - 1 → m * n < 2 ^ 63

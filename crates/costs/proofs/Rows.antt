@@ -8,10 +8,10 @@ use Prim.Native.Nat.{ℕ, zero, suc, _+_, _-_, _≤_, _<_, min}
 use native.Mathlib.Nat.{zero-add}
 use native.Mathlib.Omega.{arith}
 use lib.Dec.{T, leb, leb→le}
-use lib.IntN.{ℤ, pos, negsuc, natAbs}
+use lib.IntN.{ℤ, pos, negsuc}
 use lib.Signed.{leZ, ltZ}
 use Rattle.rules.specs.Lists.{those, every, neighbours, count-from}
-use Rattle.rules.specs.Figures.{Step, figure, within, is-zero, steps, used, unused, last-cost, row-cost, good-row}
+use Rattle.rules.specs.Figures.{Step, figure, within, is-zero, step-count, steps, used, unused, last-cost, row-cost, good-row}
 use Rattle.rules.proofs.Lists.{those-append}
 use Rattle.costs.specs.Steps.{rises, good-step}
 use Rattle.costs.proofs.Counts.{counted-one}
@@ -21,15 +21,15 @@ abbrev step : List ℤ → ℕ → Step
 step x k = record { start = figure x (1 + k); cost = figure x (9 + k) }
 
 abbrev many : List ℤ → ℕ
-many x = min (natAbs (figure x 0)) 8
+many x = min (step-count (figure x 0)) 8
 
 used-steps : (x : List ℤ) → used x ≡ map (step x) (count-from 0 (many x))
 unfolding used steps
-used-steps x = take-count (step x) 0 8 (natAbs (figure x 0))
+used-steps x = take-count (step x) 0 8 (step-count (figure x 0))
 
 unused-steps : (x : List ℤ) → unused x ≡ map (step x) (count-from (many x) (8 - many x))
 unfolding unused steps
-unused-steps x = rw zero-add at (drop-count (step x) 0 8 (natAbs (figure x 0)))
+unused-steps x = rw zero-add at (drop-count (step x) 0 8 (step-count (figure x 0)))
 
 -- what some steps of a row come to at an arrival, and its first ones
 abbrev come-to : List ℤ → ℕ → List ℕ → ℤ

@@ -1,3 +1,4 @@
--- What the contracts of this crate's own functions say beside the rules.
--- The public ones cite the rules alone.
+-- What the contracts of this crate say beside the rules.
+-- The public ones cite the rules, and `joined` cites Held.
 pub mod Steps
+pub mod Held

@@ -2,14 +2,13 @@
 // Figures are a train's numbers in its list. Every public function is a column of the rules' table.
 ghost use mathlib.Core.Path.{_≡_};
 ghost use Prim.Native.Nat.{_<_, min};
-ghost use lib.IntN.{pos, natAbs};
+ghost use lib.IntN.{pos, _+ℤ_};
 ghost use lib.Signed.{leZ};
-ghost use mir.Syntax.{w64};
-ghost use mir.Val.{SFits};
 ghost use Rattle.rules.specs.Lists.{every, count-from};
-ghost use Rattle.rules.specs.Figures.{figure, within, good-row, row-cost};
+ghost use Rattle.rules.specs.Figures.{figure, within, step-count, good-row, row-cost};
 ghost use Rattle.rules.specs.Objectives.{aim-of, larger};
 ghost use Rattle.costs.specs.Steps.{good-step};
+ghost use Rattle.costs.specs.Held.{held};
 
 // Whether trains of one station leave in list order, as those with rows do.
 pub fn listed(objective: u32) -> bool
@@ -48,15 +47,15 @@ fn within(least: i32, most: i32, z: i32) -> bool
 
 // How many steps of a row are used, by its step count.
 fn steps_used(count: i32) -> usize
-    ensures { λ r. ⌜ r ≡ min (natAbs count) 8 ⌝ }
+    ensures { λ r. ⌜ r ≡ min (step-count count) 8 ⌝ }
 {
-    if within(0, 8, count) {
-        return count as usize;
+    if count < 0 {
+        return 0;
     }
-    if within(-8, -1, count) {
-        return (-count) as usize;
+    if 8 < count {
+        return 8;
     }
-    8
+    count as usize
 }
 
 // Whether the step after k others keeps the rule: a used one rises from the one before, any other is 0.
@@ -153,13 +152,28 @@ fn larger(a: i64, b: i64) -> i64
     if a <= b { b } else { a }
 }
 
-// Two costs as one: their sum, or the larger.
+// The sum of two costs, held to 64 bits.
+fn sum(a: i64, b: i64) -> i64
+    ensures { λ r. ⌜ r ≡ held (a +ℤ b) ⌝ }
+{
+    if b < 0 {
+        if a < i64::MIN - b {
+            return i64::MIN;
+        }
+        return a + b;
+    }
+    if i64::MAX - b < a {
+        return i64::MAX;
+    }
+    a + b
+}
+
+// Two costs as one: their sum, held to 64 bits, or the larger.
 pub fn joined(objective: u32, a: i64, b: i64) -> i64
-    requires { ⌜ SFits w64 (aim-of objective .joined a b) ⌝ }
-    ensures { λ r. ⌜ r ≡ aim-of objective .joined a b ⌝ }
+    ensures { λ r. ⌜ r ≡ held (aim-of objective .joined a b) ⌝ }
 {
     if (objective == 2) | (objective == 3) {
-        return a + b;
+        return sum(a, b);
     }
     larger(a, b)
 }

@@ -2,3 +2,4 @@
 pub mod Seek
 pub mod Table
 pub mod Parts
+pub mod Unique

@@ -12,13 +12,13 @@ ghost use lib.ListN.{length};
 ghost use Rattle.rules.specs.Line.{good-timing};
 ghost use Rattle.rules.specs.Objectives.{aim-of};
 ghost use Rattle.rules.specs.Refusals.{known, call-refusals, train-refusals, refusals};
-ghost use Rattle.rules.specs.Answers.{says, verdict};
+ghost use Rattle.rules.specs.Answers.{value-is, refused, says, verdict};
 ghost use Rattle.rules.specs.Trains.{asked};
 ghost use Rattle.refusals.specs.Trains.{trains-in, first-bad};
 
 // The refusal with this number and these places.
 pub fn refused(number: u32, first: u32, second: u32) -> Answer
-    ensures { λ r. ⌜ r .outcome ≡ Outcome.Refused number first second ⌝ }
+    ensures { λ r. ⌜ says r ≡ refused number first second ⌝ }
 {
     Answer {
         outcome: Outcome::Refused {
@@ -31,7 +31,7 @@ pub fn refused(number: u32, first: u32, second: u32) -> Answer
 
 // Nothing is refused.
 fn passed() -> Answer
-    ensures { λ r. ⌜ r .outcome ≡ Outcome.Value (pos 0) ⌝ }
+    ensures { λ r. ⌜ says r ≡ value-is (pos 0) ⌝ }
 {
     Answer {
         outcome: Outcome::Value(0),

@@ -3,7 +3,7 @@
 use mathlib.Core.Bool.{Bool, _&&_}
 use mathlib.Core.List.{List, [], _∷_, map}
 use Prim.Native.Nat.{ℕ, _+_}
-use lib.IntN.{ℤ, pos, natAbs}
+use lib.IntN.{ℤ, pos, negsuc}
 use lib.ListN.{getD, take, drop}
 use lib.Signed.{leZ, ltZ}
 use Rattle.rules.specs.Lists.{those, every, neighbours, count-from}
@@ -24,11 +24,16 @@ Step = record { start : ℤ; cost : ℤ }
 unfoldable pub steps : List ℤ → List Step
 steps x = map (λ k. record { start = figure x (1 + k); cost = figure x (9 + k) }) (count-from 0 8)
 
+-- a step count as a number of steps: none where it is below 0
+abbrev pub step-count : ℤ → ℕ
+step-count (pos n) = n
+step-count (negsuc n) = 0
+
 unfoldable pub used : List ℤ → List Step
-used x = take (natAbs (figure x 0)) (steps x)
+used x = take (step-count (figure x 0)) (steps x)
 
 unfoldable pub unused : List ℤ → List Step
-unused x = drop (natAbs (figure x 0)) (steps x)
+unused x = drop (step-count (figure x 0)) (steps x)
 
 unfoldable pub good-row : List ℤ → Bool
 good-row x =

@@ -1,23 +1,21 @@
--- Sums fit as the caller says; the larger of two numbers always does.
+-- A sum is held as `sum` holds it; the larger of two numbers fits as they do.
 use borrow.Author.Needs.{needs, sfits-of}
+use mathlib.Core.Path.{_≡_}
 use mir.Facts.{toZ-ofZ}
-use mir.Syntax.{w64}
-use mir.Val.{SFits}
-use lib.IntN.{_+ℤ_}
+use Rattle.rules.specs.Objectives.{larger}
 use Rattle.costs.proofs.Table.{joined-by}
+use Rattle.costs.proofs.Held.{held-fits}
 use Rattle.costs.proofs.joined.Statement.{statement}
 use Rattle.costs.proofs.joined.Tie as tie
 
-sum-fits : (c : tie.Then1) → SFits w64 (c .before .args .a +ℤ c .before .args .b)
-sum-fits c = rw (joined-by (c .before .args .objective), c .if1 .taken) at (c .before .pre)
-
-add-result : tie.Need-add-result
-add-result c = let f = c .before .fits in rw (toZ-ofZ (f .a), toZ-ofZ (f .b)) (sum-fits c)
+sum-requires : tie.Need-sum-requires
+sum-requires c κs = search needs
 
 returns : tie.Need-returns
 returns c =
-    let f = c .before .fits in
-    rw (joined-by (c .before .args .objective), c .if1 .taken, toZ-ofZ (f .a), toZ-ofZ (f .b)) (toZ-ofZ (sum-fits c))
+    let s = c .before .before in
+    rw (joined-by (s .args .objective), c .before .if1 .taken, toZ-ofZ (sfits-of (c .sum .ok)))
+    (simp (toZ-ofZ (s .fits .a), toZ-ofZ (s .fits .b)) at (c .sum .ensures))
 
 larger-requires : tie.Need-larger-requires
 larger-requires c κs = search needs
@@ -25,8 +23,8 @@ larger-requires c κs = search needs
 returns-2 : tie.Need-returns-2
 returns-2 c =
     let s = c .before .before in
-    rw (joined-by (s .args .objective), c .before .if1 .left, toZ-ofZ (sfits-of (c .larger .ok)))
-    (simp (toZ-ofZ (s .fits .a), toZ-ofZ (s .fits .b)) at (c .larger .ensures))
+    let e : c .larger .result ≡ larger (s .args .a) (s .args .b) = simp (toZ-ofZ (s .fits .a), toZ-ofZ (s .fits .b)) at (c .larger .ensures) in
+    rw (joined-by (s .args .objective), c .before .if1 .left, toZ-ofZ (sfits-of (c .larger .ok)), ← e, held-fits _ (sfits-of (c .larger .ok)))
 
 pub joined-spec : {M : Type 1} → statement M
-joined-spec = tie.close (tie.spec add-result returns larger-requires returns-2)
+joined-spec = tie.close (tie.spec sum-requires returns larger-requires returns-2)

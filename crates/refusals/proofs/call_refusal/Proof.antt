@@ -20,7 +20,7 @@ refused-requires : tie.Need-refused-requires
 refused-requires c κs = tt
 
 returns : tie.Need-returns
-unfolding says call-refusals refuse
+unfolding call-refusals refuse
 returns c = rw (c .refused .ensures, ← c .before .before .known-objective .ensures, c .before .if1 .taken)
 
 good-timing-requires : tie.Need-good-timing-requires
@@ -30,7 +30,7 @@ refused-requires-2 : tie.Need-refused-requires-2
 refused-requires-2 c κs = tt
 
 returns-2 : tie.Need-returns-2
-unfolding says call-refusals refuse
+unfolding call-refusals refuse
 returns-2 c =
     rw (
       c .refused2 .ensures,
@@ -84,7 +84,7 @@ three-passed c =
     )
 
 returns-3 : tie.Need-returns-3
-unfolding says refuse ragged aim
+unfolding refuse ragged aim
 returns-3 c =
     rw (
       c .refused3 .ensures,
@@ -101,7 +101,7 @@ refused-requires-4 : tie.Need-refused-requires-4
 refused-requires-4 c κs = tt
 
 returns-4 : tie.Need-returns-4
-unfolding says refuse
+unfolding refuse
 returns-4 c =
     rw (
       c .refused4 .ensures,
@@ -127,7 +127,7 @@ unfolding refuse
 four-passed c = rw (three-passed (c .before .before), ← c .before .both-empty .ensures, c .if4 .left)
 
 returns-5 : tie.Need-returns-5
-unfolding says refuse crowded count-at aim trains-in
+unfolding refuse crowded count-at aim trains-in
 returns-5 c =
     rw (
       c .refused5 .ensures,
@@ -141,7 +141,7 @@ passed-requires : tie.Need-passed-requires
 passed-requires c κs = tt
 
 returns-6 : tie.Need-returns-6
-unfolding says refuse crowded count-at aim trains-in
+unfolding refuse crowded count-at aim trains-in
 returns-6 c =
     rw (
       c .passed .ensures,

@@ -21,7 +21,6 @@ refused-requires : tie.Need-refused-requires
 refused-requires c κs = tt
 
 returns : tie.Need-returns
-unfolding says
 returns c t =
     rw (c .refused .ensures)
     (sym (bad-one (asked _ t _ _) _ _ (omega arith) ∙ ap (λ n. refused 6 n 0) (omega arith)))
@@ -42,7 +41,6 @@ refused-requires-2 : tie.Need-refused-requires-2
 refused-requires-2 c κs = tt
 
 returns-2 : tie.Need-returns-2
-unfolding says
 returns-2 c t =
     rw (c .refused2 .ensures)
     (sym (bad-two (asked _ t _ _) _ _ (omega arith) (omega arith) ∙ ap (λ n. refused 6 n 0) (omega arith)))
@@ -54,7 +52,6 @@ refused-requires-3 : tie.Need-refused-requires-3
 refused-requires-3 c κs = tt
 
 returns-3 : tie.Need-returns-3
-unfolding says
 returns-3 c t =
     rw (c .refused3 .ensures) (sym (misplaced (asked _ t _ _) _ _ (omega arith) (omega arith) (omega arith)))
 
@@ -62,7 +59,6 @@ passed-requires : tie.Need-passed-requires
 passed-requires c κs = tt
 
 returns-4 : tie.Need-returns-4
-unfolding says
 returns-4 c t =
     rw (c .passed .ensures) (sym (all-well (asked _ t _ _) _ _ (omega arith) (omega arith) (omega arith)))
 
