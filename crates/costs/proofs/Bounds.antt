@@ -2,6 +2,7 @@
 -- `mag z` is n for n and for -(n + 1), the bound by which a number fits 64 bits.
 use mathlib.Core.Bool.{Bool}
 use mathlib.Core.List.{List, [], _∷_}
+use mathlib.Core.Path.{_≡_}
 use Prim.Native.Nat.{ℕ, zero, suc, _+_, _*_, _≤_, _<_}
 use native.Mathlib.Nat.{mul-le-mul-right}
 use native.Mathlib.Omega.{arith}
@@ -15,7 +16,9 @@ use Rattle.rules.specs.Figures.{figure, within, Step, used, good-row, last-cost
 use Rattle.rules.specs.Objectives.{larger, lateness, weighted, by-rows, aim-of}
 use Rattle.rules.proofs.Tests.{both}
 use Rattle.costs.proofs.Table.{each}
+use Rattle.costs.specs.Held.{held}
 use Rattle.costs.proofs.Differences.{mag-difference}
+use Rattle.costs.proofs.Held.{held-fits}
 use Rattle.theory.proofs.Choices.{cond-ind}
 
 mag-sum : (a b : ℤ) → mag (a +ℤ b) ≤ mag a + mag b + 1
@@ -89,3 +92,6 @@ module _ (n : ℕ) (total cost : ℤ) (k : ℕ) (h : mag total ≤ k * 100100000
 
   pub joined-fits : k < 96 → SFits w64 (aim-of n .joined total cost)
   joined-fits few = record { sfits = omega (arith, joined-small) }
+
+  pub joined-held : k < 96 → held (aim-of n .joined total cost) ≡ aim-of n .joined total cost
+  joined-held few = held-fits _ (joined-fits few)

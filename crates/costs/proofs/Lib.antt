@@ -5,6 +5,6 @@ pub mod Differences
 pub mod Ranges
 pub mod Stretches
 pub mod Rows
-pub mod Bounds
 pub mod Held
+pub mod Bounds
 pub mod Unique

@@ -76,7 +76,6 @@ refused-requires : tie.Need-refused-requires
 refused-requires c κs = tt
 
 returns : tie.Need-returns
-unfolding says
 returns c =
     let s = c .before .before .before .before in
     let late = c .before .before .first-late .ensures in
@@ -104,7 +103,6 @@ refused-requires-2 : tie.Need-refused-requires-2
 refused-requires-2 c κs = tt
 
 returns-2 : tie.Need-returns-2
-unfolding says
 returns-2 c =
     let f = c .before .before .before .before .before in
     let s = start f in

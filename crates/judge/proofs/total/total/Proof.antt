@@ -10,7 +10,7 @@ use lib.Signed.{mag}
 use lib.ListN.{length}
 use Rattle.rules.specs.Trains.{Section, aim, count, asked}
 use Rattle.rules.specs.Value.{value}
-use Rattle.costs.proofs.Bounds.{joined-fits, joined-small}
+use Rattle.costs.proofs.Bounds.{joined-held, joined-small}
 use Rattle.judge.proofs.Totals.{from, starts, turns, ends}
 use Rattle.judge.proofs.total.total.Statement.{statement}
 use Rattle.judge.proofs.total.total.Tie as tie
@@ -53,12 +53,7 @@ cost-of-requires-2 c κs =
     s .pre .runs (c .before .before .loop .k) (omega (arith, s .pre .all))
 
 joined-requires : tie.Need-joined-requires Inv-loop μ-loop
-joined-requires c κs =
-    let at = c .before .before .before in
-    let s = at .before .before .before .before in
-    let number : at .loop .k < count (asks s) = omega (arith, s .pre .all) in
-    rw (toZ-ofZ (sfits-of (c .cost-of2 .ok)), c .cost-of2 .ensures)
-    (joined-fits (s .args .objective) _ _ (at .loop .k) (at .loop .inv .2) (s .pre .small (at .loop .k) number) (omega (arith, s .pre .few)))
+joined-requires c κs = search needs
 
 add-k : tie.Need-add-k Inv-loop μ-loop
 add-k c = search needs
@@ -72,7 +67,7 @@ loop-again c =
     let at = c .before .before .before .before in
     let s = at .before .before .before .before in
     let number : at .loop .k < count (asks s) = omega (arith, s .pre .all) in
-    rw (toZ-ofZ (sfits-of (c .joined .ok)), c .joined .ensures, toZ-ofZ (sfits-of (c .before .cost-of2 .ok)), c .before .cost-of2 .ensures) (
+    rw (toZ-ofZ (sfits-of (c .joined .ok)), c .joined .ensures, toZ-ofZ (sfits-of (c .before .cost-of2 .ok)), c .before .cost-of2 .ensures, joined-held (s .args .objective) _ _ (at .loop .k) (at .loop .inv .2) (s .pre .small (at .loop .k) number) (omega (arith, s .pre .few))) (
       omega arith,
       sym (turns (asks s) (s .args .departures .now) (toZ w64 (at .loop .total)) (at .loop .k) number) ∙ at .loop .inv .1,
       joined-small (s .args .objective) _ _ (at .loop .k) (at .loop .inv .2) (s .pre .small (at .loop .k) number),
