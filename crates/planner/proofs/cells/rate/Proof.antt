@@ -9,6 +9,7 @@ use mir.Val.{toZ, ofZ}
 use Prim.Native.Nat.{_-_}
 use lib.IntN.{ℤ}
 use Rattle.rules.specs.Objectives.{aim-of}
+use Rattle.costs.proofs.Held.{held-fits}
 use Rattle.planner.specs.Rests.{entry}
 use Rattle.planner.specs.Cells.{rate}
 use Rattle.planner.proofs.cells.rate.Statement.{statement}
@@ -60,12 +61,11 @@ index-3-joined : tie.Need-index-3-joined
 index-3-joined c = search needs
 
 joined-requires : tie.Need-joined-requires
-unfolding entry
-joined-requires c κs = rw (by-first c) (c .before .before .before .pre .fits)
+joined-requires c κs = search needs
 
 returns : tie.Need-returns
 unfolding entry
-returns c = rw (toZ-ofZ (sfits-of (c .joined .ok)), c .joined .ensures, by-first (c .before))
+returns c = rw (toZ-ofZ (sfits-of (c .joined .ok)), c .joined .ensures, by-first (c .before), held-fits _ (c .before .before .before .before .pre .fits))
 
 slope-requires-2 : tie.Need-slope-requires-2
 slope-requires-2 c κs = c .before .before .pre .second (c .if2 .taken)
@@ -89,12 +89,11 @@ index-3-joined-2 : tie.Need-index-3-joined-2
 index-3-joined-2 c = search needs
 
 joined-requires-2 : tie.Need-joined-requires-2
-unfolding entry
-joined-requires-2 c κs = rw (by-second c) (c .before .before .before .before .pre .fits)
+joined-requires-2 c κs = search needs
 
 returns-2 : tie.Need-returns-2
 unfolding entry
-returns-2 c = rw (toZ-ofZ (sfits-of (c .joined2 .ok)), c .joined2 .ensures, by-second (c .before))
+returns-2 c = rw (toZ-ofZ (sfits-of (c .joined2 .ok)), c .joined2 .ensures, by-second (c .before), held-fits _ (c .before .before .before .before .before .pre .fits))
 
 returns-3 : tie.Need-returns-3
 unfolding rate

@@ -8,6 +8,7 @@ use mir.Syntax.{w64}
 use mir.Val.{SFits}
 use lib.IntN.{ℤ}
 use Rattle.rules.specs.Objectives.{aim-of}
+use Rattle.costs.proofs.Held.{held-fits}
 use Rattle.planner.specs.Rests.{day}
 use Rattle.planner.proofs.rests.day.Statement.{statement}
 use Rattle.planner.proofs.rests.day.Tie as tie
@@ -34,9 +35,7 @@ rest-requires : tie.Need-rest-requires
 rest-requires c κs = search needs
 
 joined-requires : tie.Need-joined-requires
-joined-requires c κs =
-    rw (toZ-ofZ (so-far c), toZ-ofZ (sfits-of (c .before .rest .ok)), c .before .rest .ensures, ← some-left (c .before .before))
-    (c .before .before .before .before .pre .1)
+joined-requires c κs = search needs
 
 returns-2 : tie.Need-returns-2
 returns-2 c =
@@ -48,6 +47,7 @@ returns-2 c =
       toZ-ofZ (sfits-of (b .before .rest .ok)),
       b .before .rest .ensures,
       ← some-left (b .before .before),
+      held-fits _ (b .before .before .before .before .pre .1),
     )
 
 pub day-spec : {M : Type 1} → statement M

@@ -6,6 +6,7 @@ use mir.Facts.{toZ-ofZ}
 use mir.Syntax.{w64}
 use mir.Val.{SFits}
 use lib.IntN.{ℤ}
+use Rattle.costs.proofs.Held.{held-fits}
 use Rattle.planner.specs.Clock.{alone, next}
 use Rattle.planner.proofs.clock.Clock.next.Statement.{statement}
 use Rattle.planner.proofs.clock.Clock.next.Tie as tie
@@ -24,10 +25,7 @@ alone-requires : tie.Need-alone-requires
 alone-requires c κs = search needs
 
 joined-requires : tie.Need-joined-requires
-unfolding next
-joined-requires c κs =
-    rw (toZ-ofZ (so-far c), toZ-ofZ (last c), c .before .before .before .alone .ensures)
-    (rw (first-of _ _ (c .before .before .if1 .taken)) at (c .before .before .before .before .pre .1 .1))
+joined-requires c κs = search needs
 
 returns : tie.Need-returns
 unfolding alone next
@@ -38,6 +36,7 @@ returns c =
       toZ-ofZ (so-far b),
       toZ-ofZ (last b),
       b .before .before .before .alone .ensures,
+      held-fits _ (rw (first-of _ _ (b .before .before .if1 .taken)) at (b .before .before .before .before .pre .1 .1)),
       b .before .before .if1 .taken,
     )
 
