@@ -1,10 +1,8 @@
 -- By the sign of the second number: a sum past the end of 64 bits is held there, any other fits.
-use mathlib.Core.Bool.{true, false}
-use mathlib.Core.Path.{_≡_, sym, _∙_}
+use mathlib.Core.Path.{_≡_, sym}
 use native.Mathlib.Omega.{arith}
-use Prim.Native.Nat.{_≤_}
 use lib.IntN.{pos, negsuc, _+ℤ_, _-ℤ_}
-use lib.Signed.{mag, ltZ}
+use lib.Signed.{mag}
 use mir.Facts.{toZ-ofZ}
 use mir.Syntax.{w64}
 use mir.Val.{SFits}

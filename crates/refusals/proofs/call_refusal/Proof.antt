@@ -8,7 +8,6 @@ use lib.ListN.{length}
 use Rattle.rules.specs.Line.{one, two}
 use Rattle.rules.specs.Trains.{Section, asked, aim, count-at}
 use Rattle.rules.specs.Refusals.{refuse, ragged, crowded, call-refusals}
-use Rattle.rules.specs.Answers.{says}
 use Rattle.refusals.specs.Trains.{trains-in}
 use Rattle.refusals.proofs.call_refusal.Statement.{statement}
 use Rattle.refusals.proofs.call_refusal.Tie as tie

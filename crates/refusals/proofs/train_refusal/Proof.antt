@@ -2,7 +2,7 @@
 use borrow.Author.Needs.{needs}
 use mathlib.Core.Path.{sym, _∙_, ap}
 use native.Mathlib.Omega.{arith}
-use Rattle.rules.specs.Answers.{refused, says}
+use Rattle.rules.specs.Answers.{refused}
 use Rattle.rules.specs.Trains.{asked}
 use Rattle.refusals.proofs.Parts.{bad-one, bad-two, misplaced, all-well}
 use Rattle.refusals.proofs.train_refusal.Statement.{statement}
