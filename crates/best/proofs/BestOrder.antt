@@ -20,7 +20,7 @@ use Rattle.best.proofs.Orders.{days-same}
 use Rattle.best.proofs.Chosen.{chosen-same}
 use Rattle.best.proofs.Numbers.{trains-count-at}
 use Rattle.best.proofs.Stations.{order-perm}
-use Rattle.best.proofs.Days.{woven-same, day-value}
+use Rattle.best.proofs.Days.{woven-same, Whole, day-value}
 
 module _ (S : Section) (F : Fair (aim S)) (P : Lawful (line S F)) (filled : 0 < count S) where
   abbrev pub Q : Station → List Train
@@ -40,11 +40,11 @@ module _ (S : Section) (F : Fair (aim S)) (P : Lawful (line S F)) (filled : 0 < 
   section-days : map (λ o. leaving o (Q one) (Q two)) (orders (count-at S one) (count-at S two)) ≡ days (Q one) (Q two)
   section-days = rw (← order-count one, ← order-count two) (days-same (Q one) (Q two))
 
-  order-woven : All (λ o. Woven (Q one) (Q two) (leaving o (Q one) (Q two))) (orders (count-at S one) (count-at S two))
+  pub order-woven : All (Whole S) (orders (count-at S one) (count-at S two))
   order-woven =
       all-unmapped {P = Woven (Q one) (Q two)} (λ o. leaving o (Q one) (Q two)) _ (rw section-days (woven-days (Q one) (Q two)))
 
-  order-value : (o : Order) → Woven (Q one) (Q two) (leaving o (Q one) (Q two))
+  order-value : (o : Order) → Whole S o
       → F .grade (value-of S o) ≡ worth (line S F) (sent-day (leaving o (Q one) (Q two)))
   unfolding value-of
   order-value o w = rw (order-departures o) (day-value S F P _ (woven-same S w) filled)
@@ -57,7 +57,7 @@ module _ (S : Section) (F : Fair (aim S)) (P : Lawful (line S F)) (filled : 0 < 
       ∙ ap (first-best (F .values) _) section-days
       ∙ sym (day-first (line S F) P (Q one) (Q two))
 
-  pub best-woven : Woven (Q one) (Q two) (leaving (best-order S) (Q one) (Q two))
+  pub best-woven : Whole S (best-order S)
   best-woven = rw order-day (at (woven-days (Q one) (Q two)) (day-listed (line S F) P (Q one) (Q two)))
 
   pub best-graded : F .grade (best-value S) ≡ best (line S F) (λ x. 0) (Q one) (Q two)

@@ -7,23 +7,24 @@ use Rattle.rules.specs.Line.{one, two}
 use Rattle.rules.specs.Trains.{Section, aim, runs}
 use Rattle.rules.specs.Safe.{Safe}
 use Rattle.rules.specs.Value.{value}
-use Rattle.rules.specs.Orders.{station-order, value-of, best-order, best-value, plan}
+use Rattle.rules.specs.Orders.{Order, station-order, departures-of, value-of, best-order, best-value, plan}
 use Rattle.rules.specs.Refusals.{refusals}
 use Rattle.theory.specs.Line.{Lawful}
 use Rattle.theory.specs.Schedule.{worth}
 use Rattle.theory.specs.Orders.{best}
-use Rattle.theory.proofs.Facts.{all-any}
+use Rattle.theory.proofs.Facts.{each, all-any}
 use Rattle.theory.proofs.Dominance.{dominance}
 use Rattle.best.specs.Fair.{Fair}
 use Rattle.best.specs.Instance.{line}
-use Rattle.best.specs.Demand.{Best}
+use Rattle.best.specs.Demand.{Earliest, Best}
 use Rattle.best.proofs.Objectives.{fair-aim}
 use Rattle.best.proofs.Instance.{lawful}
 use Rattle.best.proofs.FirstOrder.{best-first}
 use Rattle.best.proofs.Reindex.{graded-value}
 use Rattle.best.proofs.Accepted.{Accepted, accepted}
-use Rattle.best.proofs.Days.{woven-same, day-turns, day-safe}
-use Rattle.best.proofs.BestOrder.{order-departures, best-woven, best-graded}
+use Rattle.best.proofs.Days.{Whole}
+use Rattle.best.proofs.BestOrder.{order-woven, best-woven, best-graded}
+use Rattle.best.proofs.Earliest.{order-safe, order-follows, order-earliest}
 use Rattle.best.proofs.Settled.{settled, good-settled, apart-settled, settled-cheaper}
 
 module _ (S : Section) (F : Fair (aim S)) (P : Lawful (line S F)) (A : Accepted S) where
@@ -42,14 +43,25 @@ module _ (S : Section) (F : Fair (aim S)) (P : Lawful (line S F)) (A : Accepted 
     no-better : best-value S ≤ℤ value S departures
     no-better = F .down _ _ (rw (best-graded S F P (A .filled), graded-value S F (A .filled) departures) dominated)
 
+  order-holds : (o : Order) → Whole S o → Earliest S o
+  unfolding value-of
+  order-holds o whole =
+      let safe = order-safe S F P A o whole in
+      record {
+        safe = safe;
+        follows = order-follows S F P A o whole;
+        earliest = order-earliest S F P A o whole;
+        no-cheaper = no-better (departures-of S o) safe;
+      }
+
   best-holds : Best S
   unfolding best-value value-of plan
   best-holds =
-      let woven = best-woven S F P (A .filled) in
       record {
-        safe = rw (order-departures S F P (A .filled) (best-order S)) (day-safe S F P _ (woven-same S woven) (day-turns S F woven));
+        safe = order-safe S F P A (best-order S) (best-woven S F P (A .filled));
         true-value = refl;
         least = no-better;
+        every = each order-holds (order-woven S F P (A .filled));
         first = best-first S;
         of-first = refl;
       }

@@ -14,6 +14,7 @@ pub mod Stations
 pub mod Settled
 pub mod Days
 pub mod BestOrder
+pub mod Earliest
 pub mod Demand
 pub mod NoWaiting
 pub mod StationOrder

@@ -1,47 +1,37 @@
 -- Waiting never helps: the order of a safe schedule, sent without waiting, is safe, lets no train arrive later and costs no more.
-use mathlib.Core.Bool.{Bool, true, false, cond}
 use mathlib.Core.List.{List}
 use mathlib.Core.Logic.{_≢_, by-cases}
 use mathlib.Core.Path.{_≡_, refl, sym, ap}
 use Prim.Native.Nat.{ℕ, _≤_, zero-le}
 use native.Mathlib.Decide.{decLt}
 use native.Mathlib.Omega.{arith}
-use lib.Dec.{T, eqb}
+use lib.Dec.{T}
 use lib.ListN.{getD}
 use lib.Signed.{_≤ℤ_}
 use Rattle.rules.specs.Line.{arrival}
 use Rattle.rules.specs.Trains.{Section, aim, trains, Run, runs}
 use Rattle.rules.specs.Safe.{Safe}
 use Rattle.rules.specs.Value.{value}
-use Rattle.rules.specs.Orders.{departure-of, by-number}
+use Rattle.rules.specs.Orders.{by-number}
 use Rattle.theory.specs.Line.{Lawful}
 use Rattle.theory.specs.Schedule.{All, Pairs, leave, Leaves}
 use Rattle.theory.specs.Permutations.{Perm}
 use Rattle.theory.specs.Timed.{timed}
-use Rattle.theory.specs.Waiting.{NoLater}
-use Rattle.theory.proofs.Facts.{each, all-any, pairs-each, pairs-together, pairs-mapped, all-unmapped}
+use Rattle.theory.proofs.Facts.{all-any, pairs-each, pairs-together, pairs-mapped, all-unmapped}
 use Rattle.theory.proofs.Permutations.{perm-map, all-perm, pairs-perm, worth-perm}
 use Rattle.theory.proofs.Timed.{timed-perm, timed-leaves}
-use Rattle.theory.proofs.Waiting.{no-later, waiting}
+use Rattle.theory.proofs.Waiting.{waiting}
 use Rattle.best.specs.Fair.{Fair}
 use Rattle.best.specs.Instance.{line}
 use Rattle.best.specs.Trainees.{own-order, prompt, WaitingNeverHelps}
 use Rattle.best.proofs.Instance.{sent-leaves}
-use Rattle.best.proofs.Numbers.{runs-trains, by-place}
+use Rattle.best.proofs.Numbers.{runs-trains}
 use Rattle.best.proofs.Accepted.{Accepted}
 use Rattle.best.proofs.Safety.{Fine, fine-turn}
-use Rattle.best.proofs.Reindex.{graded-value, unlike, recorded}
+use Rattle.best.proofs.Reindex.{graded-value, unlike}
 use Rattle.best.proofs.Settled.{runs-fine}
 use Rattle.best.proofs.Days.{Turn, day-value, day-safe}
-
-cond-le : (t : Bool) {a b c d : ℕ} → a ≤ b → c ≤ d → cond t a c ≤ cond t b d
-cond-le true h k = h
-cond-le false h k = k
-
--- of two schedules of one order, each number's departure is no later where each train's is
-found-no-later : {rs ss : List Run} → NoLater rs ss → (number : ℕ) → departure-of number rs ≤ departure-of number ss
-found-no-later NoLater.none number = zero-le
-found-no-later (NoLater.more {s = s} e h t) number = rw e (cond-le (eqb number (s .train .number)) h (found-no-later t number))
+use Rattle.best.proofs.Earliest.{none-later}
 
 module _ (S : Section) (F : Fair (aim S)) (P : Lawful (line S F)) (A : Accepted S) (departures : List ℕ) (safe : Safe S departures) where
   -- the runs as they leave, and the same order without waiting
@@ -78,13 +68,8 @@ module _ (S : Section) (F : Fair (aim S)) (P : Lawful (line S F)) (A : Accepted 
   prompt-sent = ap (by-number S) (sym (sent-leaves S F (λ s. 0) (λ x. 0) (λ x. refl) (own-order S departures)))
 
   prompt-no-later : (number : ℕ) → getD (prompt S departures) number 0 ≤ getD departures number 0
-  unfolding own-order by-number
-  prompt-no-later number =
-      let early = no-later (line S F) P (λ x. 0) leaves (all-any (λ r. zero-le) as-they-leave) (all-any (λ r. zero-le) as-they-leave) in
-      rw prompt-sent
-      (by-place S (λ x. departure-of (x .number) (leave (line S F) (λ y. 0) (own-order S departures))) departures
-      (each (λ x e. rw (← e) (found-no-later early (x .number)))
-      (recorded S departures as-they-leave (timed-perm (runs S departures)))) number)
+  unfolding own-order
+  prompt-no-later = rw prompt-sent (none-later S F P departures (timed-perm (runs S departures)) leaves)
 
   prompt-no-dearer : value S (prompt S departures) ≤ℤ value S departures
   unfolding own-order

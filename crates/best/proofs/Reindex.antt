@@ -69,3 +69,11 @@ unfolding runs
 recorded S departures rs p =
     let same : Perm (trains S) (map (λ r. r .train) rs) = rw (runs-trains S departures) at (perm-map (λ r. r .train) p) in
     all-unmapped (λ x. record { train = x; departure = getD departures (x .number) 0 }) (trains S) (all-perm (perm-back p) (found (unlike S rs same)))
+
+-- a schedule's departures by number, read by each train's number
+pub reads : (S : Section) (rs : List Run) → Perm (trains S) (map (λ r. r .train) rs)
+    → All (λ r. getD (by-number S rs) (r .train .number) 0 ≡ r .departure) rs
+reads S rs same =
+    together (λ r e f. sym e ∙ f)
+    (all-unmapped (λ r. r .train) rs (all-perm same (recorded S (by-number S rs) rs (same-runs S rs same))))
+    (found (unlike S rs same))

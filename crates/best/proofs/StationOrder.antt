@@ -1,8 +1,7 @@
 -- No order within a station beats the station's: at the same seconds, trains in the station's order are safe and cost no more.
 use mathlib.Core.List.{List, _++_, map, map-map, map-append}
 use mathlib.Core.Path.{_≡_, refl, sym, _∙_, ap}
-use Prim.Native.Nat.{ℕ, _<_}
-use native.Mathlib.Omega.{arith}
+use Prim.Native.Nat.{ℕ}
 use lib.ListN.{getD}
 use lib.Signed.{_≤ℤ_}
 use Rattle.rules.specs.Line.{Station, one, two}
@@ -13,17 +12,17 @@ use Rattle.rules.specs.Orders.{by-number, station-order}
 use Rattle.theory.specs.Line.{Lawful}
 use Rattle.theory.specs.Schedule.{All, Pairs, Apart}
 use Rattle.theory.specs.Permutations.{Perm, then}
-use Rattle.theory.proofs.Facts.{each, together, all-split, all-unmapped, pairs-append, pairs-of, pairs-together, pairs-mapped}
-use Rattle.theory.proofs.Permutations.{perm-back, perm-map, all-perm, worth-append}
+use Rattle.theory.proofs.Facts.{each, together, all-split, all-unmapped, pairs-append}
+use Rattle.theory.proofs.Permutations.{perm-back, perm-map, worth-append}
 use Rattle.best.specs.Fair.{Fair}
 use Rattle.best.specs.Instance.{line}
 use Rattle.best.specs.Trainees.{seconds, StationOrderServes}
 use Rattle.best.proofs.Accepted.{Accepted}
 use Rattle.best.proofs.Safety.{→same, Fine}
-use Rattle.best.proofs.Reindex.{graded-value, found, unlike, same-runs, same-value, still-safe, recorded}
+use Rattle.best.proofs.Reindex.{graded-value, same-value, still-safe, reads}
 use Rattle.best.proofs.Stations.{order-perm, order-station, Settled}
 use Rattle.best.proofs.Settled.{runs-at, settled, apart-settled, settled-cheaper}
-use Rattle.best.proofs.Days.{stations-same, order-turns, all-in-turn}
+use Rattle.best.proofs.Days.{stations-same, order-turns, all-in-turn, in-order}
 
 agree : {X Y : Type 0} (f g : X → Y) {xs : List X} → All (λ x. f x ≡ g x) xs → map f xs ≡ map g xs
 agree f g All.none = refl
@@ -59,21 +58,9 @@ module _ (S : Section) (F : Fair (aim S)) (P : Lawful (line S F)) (A : Accepted 
   abbrev ordered : List ℕ
   ordered = by-number S both
 
-  reads : All (λ r. getD ordered (r .train .number) 0 ≡ r .departure) both
-  reads =
-      together (λ r e f. sym e ∙ f)
-      (all-unmapped (λ r. r .train) both (all-perm same (recorded S ordered both (same-runs S both same))))
-      (found (unlike S both same))
-
   reads-at : (s : Station) → All (λ r. getD ordered (r .train .number) 0 ≡ r .departure) (at s .runs)
-  reads-at one = all-split (at one .runs) reads .0
-  reads-at two = all-split (at one .runs) reads .1
-
-  in-order : (s : Station) → Pairs (λ x y. getD ordered (x .number) 0 < getD ordered (y .number) 0) (station-order S s)
-  in-order s =
-      rw (← at s .queued)
-      (pairs-mapped (λ r. r .train)
-      (pairs-together (λ r z l e. omega (arith, l .waits, P .positive (r .train) (z .train), e .0, e .1)) (at s .leaving) (pairs-of (reads-at s))))
+  reads-at one = all-split (at one .runs) (reads S both same) .0
+  reads-at two = all-split (at one .runs) (reads S both same) .1
 
   same-seconds : (s : Station) → Perm (seconds S departures s) (seconds S ordered s)
   unfolding seconds
@@ -95,6 +82,6 @@ module _ (S : Section) (F : Fair (aim S)) (P : Lawful (line S F)) (A : Accepted 
         ordered = ordered;
         safe = still-safe S both same F fine;
         same-seconds = same-seconds;
-        in-order = in-order;
+        in-order = λ s. rw (at s .queued) at (in-order S F P ordered (at s .leaving) (reads-at s));
         no-greater = no-greater;
       }

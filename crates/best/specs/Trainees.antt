@@ -2,7 +2,7 @@
 -- The answers are stated here over the rules, and shown in proofs/Trainees.antt.
 use mathlib.Core.Bool.{cond}
 use mathlib.Core.List.{List, _++_, map}
-use Prim.Native.Nat.{ℕ, _≤_, _<_}
+use Prim.Native.Nat.{ℕ, _≤_}
 use lib.Dec.{leb}
 use lib.ListN.{getD, replicate}
 use lib.Signed.{_≤ℤ_}
@@ -11,9 +11,9 @@ use Rattle.rules.specs.Trains.{Section, count-at, Train, trains-at, runs}
 use Rattle.rules.specs.Safe.{Safe}
 use Rattle.rules.specs.Value.{value}
 use Rattle.rules.specs.Orders.{Order, sent, by-number, station-order}
-use Rattle.theory.specs.Schedule.{Pairs}
 use Rattle.theory.specs.Permutations.{Perm}
 use Rattle.theory.specs.Timed.{timed}
+use Rattle.best.specs.Demand.{LeaveInOrder}
 
 -- a schedule's own order: its trains as they leave
 unfoldable pub own-order : Section → List ℕ → List Train
@@ -39,7 +39,7 @@ pub record StationOrderServes (S : Section) (departures : List ℕ) : Type 0 whe
   pub ordered : List ℕ
   pub safe : Safe S ordered
   pub same-seconds : (s : Station) → Perm (seconds S departures s) (seconds S ordered s)
-  pub in-order : (s : Station) → Pairs (λ x y. getD ordered (x .number) 0 < getD ordered (y .number) 0) (station-order S s)
+  pub in-order : (s : Station) → LeaveInOrder ordered (station-order S s)
   pub no-greater : value S ordered ≤ℤ value S departures
 
 -- Is it best to clear the longer queue first, station 1's where both are as long?
