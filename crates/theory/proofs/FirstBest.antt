@@ -1,5 +1,5 @@
 -- The walk's order is the first of the best: it comes to the goal, the orders before it cost more and those after it no less.
-use mathlib.Core.Path.{_≡_, refl, sym, _∙_}
+use mathlib.Core.Path.{_≡_, refl, sym, _∙_, ap}
 use mathlib.Core.Logic.{⊎-elim}
 use mathlib.Core.List.{
   List,
@@ -28,6 +28,10 @@ data First (W : Values) {X : Type 0} (f : X → W .Val) (goal : W .Val) (x : X) 
   here : {xs : List X} → f x ≡ goal → ((z : X) → List·Memᴰ z xs → W ._≼_ goal (f z)) → First W f goal x (x ∷ xs)
   later : {z : X} {xs : List X} → ¬ (W ._≼_ (f z) goal) → First W f goal x xs → First W f goal x (z ∷ xs)
 
+-- the leftmost minimum stays where the next element costs no less
+kept : (W : Values) {X : Type 0} (f : X → W .Val) (x y : X) (xs : List X) → W ._≼_ (f x) (f y) → leftmost W f x (y ∷ xs) ≡ leftmost W f x xs
+kept W f x y xs h = ap (λ z. leftmost W f z xs) (pick-yes (W .compare (f x) (f y)) x y h)
+
 module _ (W : Values) {X : Type 0} {f : X → W .Val} {goal : W .Val} where
   open Values W using (_≼_, compare)
 
@@ -50,11 +54,10 @@ module _ (W : Values) {X : Type 0} {f : X → W .Val} {goal : W .Val} where
   found-right [] k t = t
   found-right (z ∷ xs) k t = later (k z (List·Memᴰ·head refl)) (found-right xs (λ w m. k w (List·Memᴰ·tail m)) t)
 
-  -- the leftmost minimum stays where it is once the goal is met, and leaves an element that costs more
+  -- it stays for good once the goal is met, and leaves an element that costs more
   stays : {x : X} (xs : List X) → f x ≡ goal → ((z : X) → List·Memᴰ z xs → goal ≼ f z) → leftmost W f x xs ≡ x
   stays [] e h = refl
-  stays {x} (y ∷ xs) e h =
-      rw (pick-yes (compare (f x) (f y)) x y (rw e (h y (List·Memᴰ·head refl)))) (stays xs e (λ z m. h z (List·Memᴰ·tail m)))
+  stays {x} (y ∷ xs) e h = kept W f x y xs (rw e (h y (List·Memᴰ·head refl))) ∙ stays xs e (λ z m. h z (List·Memᴰ·tail m))
 
   moves : {x y : X} {xs : List X} → First W f goal x xs → ¬ (f y ≼ goal) → leftmost W f y xs ≡ x
   moves {x} {y} (here {xs = xs} e h) n = rw (pick-no (compare (f y) (f x)) y x (rw e n)) (stays xs e h)
