@@ -1,6 +1,8 @@
 -- A sum is held as `sum` holds it; the larger of two numbers fits as they do.
 use borrow.Author.Needs.{needs, sfits-of}
+use mathlib.Core.Bool.{true, _||_}
 use mathlib.Core.Path.{_≡_}
+use lib.Dec.{eqb}
 use mir.Facts.{toZ-ofZ}
 use Rattle.rules.specs.Objectives.{larger}
 use Rattle.costs.proofs.Table.{joined-by}
@@ -8,13 +10,17 @@ use Rattle.costs.proofs.Held.{held-fits}
 use Rattle.costs.proofs.joined.Statement.{statement}
 use Rattle.costs.proofs.joined.Tie as tie
 
+-- costs are summed under objectives 2 and 3
+summed : (c : tie.Then1) → eqb (c .before .args .objective) 2 || eqb (c .before .args .objective) 3 ≡ true
+summed c = c .if1 .taken
+
 sum-requires : tie.Need-sum-requires
 sum-requires c κs = search needs
 
 returns : tie.Need-returns
 returns c =
     let s = c .before .before in
-    rw (joined-by (s .args .objective), c .before .if1 .taken, toZ-ofZ (sfits-of (c .sum .ok)))
+    rw (joined-by (s .args .objective), summed (c .before), toZ-ofZ (sfits-of (c .sum .ok)))
     (simp (toZ-ofZ (s .fits .a), toZ-ofZ (s .fits .b)) at (c .sum .ensures))
 
 larger-requires : tie.Need-larger-requires
