@@ -1,5 +1,5 @@
 -- Sections worked by hand: the cases A to M, then the other small cases and each bound with the number beyond it.
--- The rules are computed on every row; the numbers come from the page, not from a run.
+-- The rules are computed on every row. A to M have the page's numbers, the others were worked out by hand; none comes from a run.
 use mathlib.Core.List.{List, [], _∷_, _++_, map}
 use mathlib.Core.Option.{Option, none, some}
 use mathlib.Core.Path.{_≡_, refl}

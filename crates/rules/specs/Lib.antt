@@ -1,5 +1,5 @@
 -- The rules of the line as definitions, a file for each heading, in the order in which they build on one another.
--- This is all that a reader has to believe: every promise and every theorem is stated over these files.
+-- This is what a reader has to believe: the promises of planner and judge, and demand 3, are stated over these files.
 pub mod Lists
 pub mod Line
 pub mod Figures
