@@ -1,10 +1,10 @@
--- Bytes added after bytes are the two together, and those added from the start stand over what was there.
+-- Bytes added after bytes are the two together; those added from the start stand over what was there, and are the first of it.
 use mathlib.Core.List.{List, _++_, append-assoc}
 use mathlib.Core.Path.{_≡_}
 use native.Mathlib.Omega.{arith}
 use Prim.Native.Nat.{ℕ}
-use lib.ListN.{length, take, drop, length-append, take-append-drop}
-use lib.Seq.{drop-drop}
+use lib.ListN.{length, take, length-append, take-append-drop}
+use lib.Seq.{take-append-seam, drop-drop}
 use Rattle.text.specs.Adds.{Adds}
 use Rattle.text.specs.Over.{over}
 
@@ -21,3 +21,7 @@ unfolding over
 adds-over {b = b} {bytes = bytes} {r = r} f =
     let all : r ≡ length bytes = omega arith in
     (rw (← take-append-drop r b, f .shows, f .keeps, all), all)
+
+pub first-of : (bytes before : List ℕ) {buffer : List ℕ} {count : ℕ} → buffer ≡ over bytes before → count ≡ length bytes → take count buffer ≡ bytes
+unfolding over
+first-of bytes before left counted = rw (left, counted, take-append-seam)

@@ -16,7 +16,7 @@ use Rattle.text.proofs.read.numbers.Reads as numbers
 
 pub one-number : Settles number.Post
 one-number κs args r r′ exit exit′ p q =
-    ap₂ (λ bytes count. record { bytes = bytes; count = count }) (p .0 ∙ sym (q .0)) (p .1 ∙ sym (q .1))
+    ap₂ (λ bytes count. record { bytes = bytes; count = count }) (p .0 ∙ sym (q .0)) (p .1 .0 ∙ sym (q .1 .0))
 
 module _ {text : List ℕ} {before values values′ : List ℤ} where
   same-scan : (r r′ : Scan) → Reads text before r values → Reads text before r′ values′ → r ≡ r′

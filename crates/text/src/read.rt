@@ -151,7 +151,7 @@ fn fill(text: &[u8], values: &mut [i32]) -> Scan
     Scan::All(count)
 }
 
-// Reads a text's numbers into `values`; one with more numbers than these is unreadable too.
+// Reads a text's numbers over the start of `values`; one with more numbers than these is unreadable too.
 pub fn numbers(text: &[u8], values: &mut [i32; 1543]) -> Scan
     ensures { λ r. ⌜ Reads (now (text .entry)) (now (values .entry)) r (now (values .exit)) ⌝ }
 {

@@ -49,6 +49,7 @@ fn magnitude(n: i64) -> u64
 pub fn number(n: i64) -> Written
     ensures bytes { λ r. ⌜ r .bytes ≡ over (signed n) (replicate 20 0) ⌝ }
     ensures count { λ r. ⌜ r .count ≡ length (signed n) ⌝ }
+    ensures within { λ r. ⌜ r .count ≤ 20 ⌝ }
 {
     let size = magnitude(n);
     let empty = Written {

@@ -31,7 +31,8 @@ returns : tie.Need-returns
 returns c =
     let m = c .before .before .before in
     let e = simp (toZ-ofZ (m .before .fits .n)) at (c .before .before .if1 .taken) in
-    rw (signed-below (m .before .args .n) e, ← size m) (adds-over (adds-both (c .before .byte .ensures) (c .digits .ensures)))
+    let w = adds-over (adds-both (c .before .byte .ensures) (c .digits .ensures)) in
+    rw (signed-below (m .before .args .n) e, ← size m) (w .0, (w .1, omega (arith, w .1, short m)))
 
 digits-requires-2 : tie.Need-digits-requires-2
 digits-requires-2 c κs = omega (arith, short (c .before))
@@ -40,7 +41,8 @@ returns-2 : tie.Need-returns-2
 returns-2 c =
     let m = c .before .before in
     let e = simp (toZ-ofZ (m .before .fits .n)) at (c .before .if1 .left) in
-    rw (signed-above (m .before .args .n) e, ← size m) (adds-over (c .digits2 .ensures))
+    let w = adds-over (c .digits2 .ensures) in
+    rw (signed-above (m .before .args .n) e, ← size m) (w .0, (w .1, omega (arith, w .1, short m)))
 
 pub number-spec : {M : Type 1} → statement M
 number-spec =
