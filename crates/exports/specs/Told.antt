@@ -1,10 +1,9 @@
--- What a linked program is told: a verdict as four numbers, and bytes written over the start of a lent buffer.
+-- What a linked program is told: a verdict as four numbers.
 -- A place that a verdict does not speak of is 0.
-use mathlib.Core.List.{List, _++_}
+use mathlib.Core.List.{List}
 use mathlib.Core.Path.{_≡_}
 use Prim.Native.Nat.{ℕ}
 use lib.IntN.{ℤ, pos}
-use lib.ListN.{length, take, drop}
 use Rattle.rules.specs.Trains.{Section, asked}
 use Rattle.rules.specs.Answers.{Verdict, value-is, refused}
 
@@ -26,7 +25,3 @@ told (refused n first second) = record { number = n; value = pos 0; first = firs
 -- the numbers that a call leaves tell a verdict
 abbrev pub Tells : ℕ → ℤ → ℕ → ℕ → Verdict → Type 0
 Tells n v first second verdict = record { number = n; value = v; first = first; second = second } ≡ told verdict
-
--- as many of the bytes as the buffer holds, then what stood there
-unfoldable pub over : List ℕ → List ℕ → List ℕ
-over bytes out = take (length out) bytes ++ drop (length bytes) out

@@ -4,23 +4,23 @@ use rules::Answer;
 use rules::Outcome;
 use rules::Timing;
 ghost use mathlib.Core.Path.{_≡_};
-ghost use mathlib.Core.Logic.{_⊎_};
-ghost use Prim.Native.Nat.{_≤_};
-ghost use lib.ListN.{length};
+ghost use Prim.Native.Nat.{min};
+ghost use lib.ListN.{length, take};
 ghost use Rattle.rules.specs.Answers.{says, planner-answers, planner-leaves, judge-answers};
 ghost use Rattle.section_file.specs.Answer.{answer};
-ghost use Rattle.exports.specs.Told.{called, over, Tells};
+ghost use Rattle.text.specs.Over.{over};
+ghost use Rattle.exports.specs.Told.{called, Tells};
 
 // The smaller of two lengths.
 fn smaller(a: usize, b: usize) -> usize
-    ensures { λ r. ⌜ (r ≤ a) × (r ≤ b) × ((r ≡ a) ⊎ (r ≡ b)) ⌝ }
+    ensures { λ r. ⌜ r ≡ min a b ⌝ }
 {
     if a < b { a } else { b }
 }
 
 // Copies bytes over the start of `out`, as many as it holds.
 fn copy_over(bytes: &[u8], out: &mut [u8])
-    ensures { λ _. ⌜ now (out .exit) ≡ over (now (bytes .entry)) (now (out .entry)) ⌝ }
+    ensures { λ _. ⌜ now (out .exit) ≡ over (take (length (now (out .entry))) (now (bytes .entry))) (now (out .entry)) ⌝ }
 {
     let n = smaller(bytes.len(), out.len());
     for k in 0..n {
@@ -57,7 +57,7 @@ fn tell(answer: Answer, value: &mut i64, first: &mut u32, second: &mut u32) -> u
 #[no_mangle]
 pub extern "C" fn pulpmitten_answer_text(text: &[u8], out: &mut [u8]) -> usize
     ensures { λ r. ⌜ r ≡ length (answer (now (text .entry))) ⌝ }
-    ensures { λ _. ⌜ now (out .exit) ≡ over (answer (now (text .entry))) (now (out .entry)) ⌝ }
+    ensures { λ _. ⌜ now (out .exit) ≡ over (take (length (now (out .entry))) (answer (now (text .entry)))) (now (out .entry)) ⌝ }
 {
     let printed = section_file::answer_text(text);
     let bytes = printed.bytes;

@@ -148,8 +148,8 @@ module _ (objective : ℕ) (t : Timing) (xs ys zs : List ℤ) {page page′ : Li
 -- an answer that is put from the page's start stands within it
 pub put-within : {page page′ bytes : List ℕ} {r : ℕ} → Put page 0 bytes page′ r → r ≤ 8192
 put-within {page′ = page′} {bytes = bytes} {r = r} p =
-    let taken : min r (length page′) ≡ length bytes = sym (length-take r page′) ∙ ap length (p .shows) in
-    omega (arith, p .ends, p .whole)
+    let taken : min r (length page′) ≡ length bytes = sym (length-take r page′) ∙ ap length (p .added .shows) in
+    omega (arith, p .added .ends, p .whole)
 
 -- of the numbers of a text: the layout that is found, or none
 pub found-none : {values : List ℤ} {r : Found} → Laid values r → r ≡ Unreadable → answered unreadable ≡ answered (laid-out values)
@@ -160,11 +160,11 @@ pub found-file : {values : List ℤ} {r : Found} {l : Layout} → Laid values r 
 found-file {values = values} laid e = (ap answered (ap (file-shown values) (sym e) ∙ laid .found), placed-of (laid .places) e)
 
 -- of a text: the numbers that are read, or none
-pub read-none : {text : List ℕ} {r : Scan} {values : List ℤ} → Reads text r values → r ≡ Bad → length text ≤ 16384 → answered unreadable ≡ answer text
+pub read-none : {text : List ℕ} {r : Scan} {before values : List ℤ} → Reads text before r values → r ≡ Bad → length text ≤ 16384 → answered unreadable ≡ answer text
 read-none {text = text} {values = values} reads e h =
     short-enough text h (scan-bad (numbers text) (ap (λ r. shown r values) (sym e) ∙ reads .found))
 
-pub read-all : {text : List ℕ} {r : Scan} {values : List ℤ} {n : ℕ} → Reads text r values → r ≡ All n → length text ≤ 16384
+pub read-all : {text : List ℕ} {r : Scan} {before values : List ℤ} {n : ℕ} → Reads text before r values → r ≡ All n → length text ≤ 16384
     → (answered (laid-out (take n values)) ≡ answer text) × (n ≤ 1543)
 read-all {text = text} {values = values} {n = n} reads e h = (
   short-enough text h (scan-all (numbers text) (take n values) (ap (λ r. shown r values) (sym e) ∙ reads .found)),

@@ -1,7 +1,7 @@
 -- What is put onto a page piece by piece is put as one.
 use mathlib.Core.Bool.{cond}
-use mathlib.Core.List.{List, [], _∷_, _++_, append-assoc, append-nil}
-use mathlib.Core.Path.{_≡_, sym, _∙_, ap}
+use mathlib.Core.List.{List, [], _∷_, _++_, append-nil}
+use mathlib.Core.Path.{_≡_, refl, sym}
 use Prim.Native.Nat.{ℕ, _+_, _-_, _≤_, _<_, _^_}
 use native.Mathlib.Omega.{arith}
 use lib.Dec.{ltb}
@@ -15,6 +15,7 @@ use Rattle.rules.specs.Line.{running, arrival}
 use Rattle.theory.proofs.Choices.{cond-ind}
 use Rattle.line.specs.Station.{station}
 use Rattle.text.specs.Written.{signed}
+use Rattle.text.proofs.Adding.{adds-both}
 use Rattle.text.proofs.Decimal.{signed-length}
 use Rattle.section_file.specs.Lines.{line}
 use Rattle.section_file.specs.Page.{Put}
@@ -22,22 +23,18 @@ use Rattle.section_file.specs.Printing.{kth-line}
 
 pub put-on : {page page′ page″ : List ℕ} {at r r′ : ℕ} {bytes more : List ℕ} → Put page at bytes page′ r → Put page′ r more page″ r′
     → Put page at (bytes ++ more) page″ r′
-put-on {page = page} {at = at} {bytes = bytes} {more = more} p q =
-    record {
-      ends = omega (arith, p .ends, q .ends, length-append bytes more);
-      shows = q .shows ∙ ap (λ z. z ++ more) (p .shows) ∙ append-assoc (take at page) bytes more;
-      whole = q .whole;
-    }
+put-on p q = record { added = adds-both (p .added) (q .added); whole = q .whole }
 
 -- a number takes at most 20 bytes, and one after a space 21
 pub number-room : {page page′ : List ℕ} {at r n : ℕ} → n < 2 ^ 63 → Put page at (signed (toZ w64 n)) page′ r → r ≤ at + 20
-number-room {n = n} h p = omega (arith, rw (toZ-pos w64 {n = n} h) at (p .ends), signed-length (pos n) (record { sfits = h }))
+number-room {n = n} h p = omega (arith, rw (toZ-pos w64 {n = n} h) at (p .added .ends), signed-length (pos n) (record { sfits = h }))
 
 pub field-room : {page page′ : List ℕ} {at r : ℕ} (z : ℤ) → SFits w64 z → Put page at (32 ∷ signed z) page′ r → r ≤ at + 21
-field-room z fits p = omega (arith, p .ends, signed-length z fits)
+field-room z fits p = omega (arith, p .added .ends, signed-length z fits)
 
 pub put-nothing : (page : List ℕ) (at : ℕ) → length page ≡ 8192 → Put page at [] page at
-put-nothing page at whole = record { ends = omega arith; shows = sym (append-nil (take at page)); whole = whole }
+put-nothing page at whole =
+    record { added = record { ends = omega arith; shows = sym (append-nil (take at page)); keeps = refl }; whole = whole }
 
 digits-few : (n : ℕ) → n < 2 ^ 63 → length (signed (pos n)) ≤ 20
 digits-few n h = signed-length (pos n) (record { sfits = h })

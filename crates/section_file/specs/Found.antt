@@ -28,14 +28,14 @@ part-shown values (Of s) = part (spanned values s) (drop (s .end) values)
 part-shown values Not = no-part
 
 -- a part stands after the place of its count, and within the values
-pub record Inside (at length : ℕ) (s : Span) : Type 0 where
+pub record Inside (at size : ℕ) (s : Span) : Type 0 where
   pub after : at < s .start
   pub ordered : s .start ≤ s .end
-  pub within : s .end ≤ length
+  pub within : s .end ≤ size
 
-pub data Stands (at length : ℕ) : Part → Type 0 where
-  stands : {s : Span} → Inside at length s → Stands at length (Of s)
-  nowhere : Stands at length Not
+pub data Stands (at size : ℕ) : Part → Type 0 where
+  stands : {s : Span} → Inside at size s → Stands at size (Of s)
+  nowhere : Stands at size Not
 
 pub record Parted (values : List ℤ) (at : ℕ) (least most : ℤ) (minus : Bool) (r : Part) : Type 0 where
   pub found : part-shown values r ≡ section-of (natAbs least) (natAbs most) minus (drop at values)
@@ -49,9 +49,9 @@ file-shown values (File l) =
 file-shown values Unreadable = unreadable
 
 -- a list of at most 512 numbers within the values
-pub record Listed (length : ℕ) (s : Span) : Type 0 where
+pub record Listed (size : ℕ) (s : Span) : Type 0 where
   pub ordered : s .start ≤ s .end
-  pub within : s .end ≤ length
+  pub within : s .end ≤ size
   pub few : s .end ≤ s .start + 512
 
 pub record Placed (values : List ℤ) (l : Layout) : Type 0 where

@@ -29,20 +29,21 @@ module _ {X : Type 0} (f : ℕ → X) (above : X) (same : (n : ℕ) → 21474836
   by-capped : f (amount word) ≡ f (capped word)
   by-capped = by-size _ refl
 
-module _ (word : List ℕ) where
-  pub positive-capped : positive word ≡ cond (plain word && leb (capped word) 2147483647) (Is (pos (capped word))) Not
+-- a number by what the code finds of a word
+module _ (tested : Bool) (word : List ℕ) {digits : Bool} {n : ℕ} (is-plain : digits ≡ plain word) (is-capped : n ≡ capped word) where
+  pub positive-is : digits && leb n 2147483647 ≡ tested → cond tested (Is (pos n)) Not ≡ positive word
   unfolding positive
-  positive-capped =
-      by-capped (λ n. cond (plain word && leb n 2147483647) (Is (pos n)) Not) Not
-      (λ n h. let above : 2147483647 < n = omega arith in rw (lt-leb n 2147483647 above, and-false)) word
+  positive-is e =
+      rw (← e, is-plain, is-capped)
+      (sym (by-capped (λ n. cond (plain word && leb n 2147483647) (Is (pos n)) Not) Not
+      (λ n h. let above : 2147483647 < n = omega arith in rw (lt-leb n 2147483647 above, and-false)) word))
 
-  pub negative-capped :
-      negative word ≡
-      cond (plain word && leb 1 (capped word) && leb (capped word) 2147483648) (Is (negℤ (pos (capped word)))) Not
+  pub negative-is : digits && leb 1 n && leb n 2147483648 ≡ tested → cond tested (Is (negℤ (pos n))) Not ≡ negative word
   unfolding negative
-  negative-capped =
-      by-capped (λ n. cond (plain word && leb 1 n && leb n 2147483648) (Is (negℤ (pos n))) Not) Not
-      (λ n h. rw (lt-leb n 2147483648 h, and-false)) word
+  negative-is e =
+      rw (← e, is-plain, is-capped)
+      (sym (by-capped (λ n. cond (plain word && leb 1 n && leb n 2147483648) (Is (negℤ (pos n))) Not) Not
+      (λ n h. rw (lt-leb n 2147483648 h, and-false)) word))
 
 pub negated-fits : (n : ℕ) → n ≤ 2147483648 → mag (negℤ (pos n)) < 2 ^ 31
 negated-fits zero h = omega arith

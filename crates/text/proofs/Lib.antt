@@ -5,3 +5,4 @@ pub mod Scans
 pub mod Signs
 pub mod Decimal
 pub mod Adding
+pub mod Unique

@@ -3,6 +3,7 @@
 pub mod Bytes
 pub mod Words
 pub mod Numbers
+pub mod Over
 pub mod Read
 pub mod Pieces
 pub mod Written

@@ -130,7 +130,7 @@ fn as_number(word: &[u8]) -> Number
 // As `numbers`, into a slice: only of a slice is the length known to a proof.
 fn fill(text: &[u8], values: &mut [i32]) -> Scan
     requires { ⌜ length (now values) ≡ 1543 ⌝ }
-    ensures { λ r. ⌜ Reads (now (text .entry)) r (now (values .exit)) ⌝ }
+    ensures { λ r. ⌜ Reads (now (text .entry)) (now (values .entry)) r (now (values .exit)) ⌝ }
 {
     let mut count = 0;
     let mut at = 0;
@@ -151,9 +151,9 @@ fn fill(text: &[u8], values: &mut [i32]) -> Scan
     Scan::All(count)
 }
 
-// Reads a text's numbers into `values`; one with more numbers than these is unreadable too.
+// Reads a text's numbers over the start of `values`; one with more numbers than these is unreadable too.
 pub fn numbers(text: &[u8], values: &mut [i32; 1543]) -> Scan
-    ensures { λ r. ⌜ Reads (now (text .entry)) r (now (values .exit)) ⌝ }
+    ensures { λ r. ⌜ Reads (now (text .entry)) (now (values .entry)) r (now (values .exit)) ⌝ }
 {
     fill(text, values)
 }

@@ -3,8 +3,9 @@ ghost use mathlib.Core.List.{[], _∷_};
 ghost use mathlib.Core.Path.{_≡_};
 ghost use Prim.Native.Nat.{_+_, _≤_, _<_};
 ghost use lib.IntN.{natAbs};
-ghost use lib.ListN.{length, take};
+ghost use lib.ListN.{length, replicate};
 ghost use Rattle.text.specs.Written.{decimal, signed};
+ghost use Rattle.text.specs.Over.{over};
 ghost use Rattle.text.specs.Adds.{Adds};
 
 // The first `count` bytes are a number's.
@@ -17,7 +18,7 @@ impl Written {
     // With one byte more.
     fn byte(mut self, byte: u8) -> Written
         requires { ⌜ self .count < 20 ⌝ }
-        ensures { λ r. ⌜ Adds self (byte ∷ []) r ⌝ }
+        ensures { λ r. ⌜ Adds (self .bytes) (self .count) (byte ∷ []) (r .bytes) (r .count) ⌝ }
     {
         let at = self.count;
         self.bytes[at] = byte;
@@ -28,7 +29,7 @@ impl Written {
     // With a number's digits more.
     fn digits(self, n: u64) -> Written
         requires { ⌜ self .count + length (decimal n) ≤ 20 ⌝ }
-        ensures { λ r. ⌜ Adds self (decimal n) r ⌝ }
+        ensures { λ r. ⌜ Adds (self .bytes) (self .count) (decimal n) (r .bytes) (r .count) ⌝ }
     {
         if n < 10 {
             return self.byte(b'0' + n as u8);
@@ -44,10 +45,11 @@ fn magnitude(n: i64) -> u64
     if n < 0 { (-1 - n) as u64 + 1 } else { n as u64 }
 }
 
-// A number with its sign, in decimal.
+// A number with its sign, in decimal; the bytes after it are 0.
 pub fn number(n: i64) -> Written
-    ensures { λ r. ⌜ take (r .count) (r .bytes) ≡ signed n ⌝ }
-    ensures { λ r. ⌜ r .count ≤ 20 ⌝ }
+    ensures bytes { λ r. ⌜ r .bytes ≡ over (signed n) (replicate 20 0) ⌝ }
+    ensures count { λ r. ⌜ r .count ≡ length (signed n) ⌝ }
+    ensures within { λ r. ⌜ r .count ≤ 20 ⌝ }
 {
     let size = magnitude(n);
     let empty = Written {

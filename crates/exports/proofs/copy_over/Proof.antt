@@ -1,15 +1,14 @@
 -- The loop's invariant: the first k bytes stand over the start of what was there.
 use borrow.Author.Needs.{needs}
 use mathlib.Core.List.{List, _++_}
-use mathlib.Core.Logic.{_⊎_, ⊎-elim}
-use mathlib.Core.Path.{_≡_, refl, sym, _∙_, ap}
+use mathlib.Core.Path.{_≡_, refl, sym, _∙_, ap, ap₂}
 use native.Mathlib.Nat.{zero-add}
 use native.Mathlib.Numerals.{add-one}
 use native.Mathlib.Omega.{arith}
-use Prim.Native.Nat.{ℕ, _+_, _-_, _≤_, _<_}
-use lib.ListN.{length, take, drop, set, getD, length-set, drop-of-length-le}
-use lib.Seq.{take-all, take-length, drop-length, paste, paste-suc}
-use Rattle.exports.specs.Told.{over}
+use Prim.Native.Nat.{ℕ, _+_, _-_, _≤_, _<_, min}
+use lib.ListN.{length, take, drop, set, getD, length-take, length-set}
+use lib.Seq.{take-length, take-take, paste, paste-suc}
+use Rattle.text.specs.Over.{over}
 use Rattle.exports.proofs.copy_over.Statement.{statement}
 use Rattle.exports.proofs.copy_over.Tie as tie
 
@@ -32,16 +31,14 @@ turn out₀ out bytes k h h′ e =
     ∙ paste-suc out₀ 0 bytes k 0 (omega arith) h′
     ∙ ap (paste out₀ 0 bytes) (sym (add-one k))
 
--- all that fit are all there are, or the buffer is full
-full : (out bytes : List ℕ) (n : ℕ) → (n ≡ length bytes) ⊎ (n ≡ length out) → n ≤ length bytes → n ≤ length out
-    → paste out 0 bytes n ≡ over bytes out
+-- as many bytes as there are and as fit
+full : (out bytes : List ℕ) (n : ℕ) → n ≡ min (length bytes) (length out) → paste out 0 bytes n ≡ over (take (length out) bytes) out
 unfolding over
-full out bytes n which h h′ =
-    ap (λ (j : ℕ). take n bytes ++ drop j out) (zero-add n)
-    ∙ ⊎-elim
-    (λ e. rw (e, take-length, take-all (length out) bytes (omega arith)) refl)
-    (λ e. rw (e, drop-length, drop-of-length-le out {i = length bytes} (omega arith)) refl)
-    which
+full out bytes n e =
+    let fit : List ℕ = take (length out) bytes in
+    let all : n ≡ length fit = rw length-take (omega arith) in
+    let first : take n bytes ≡ fit = sym (take-take n (length out) bytes (omega arith)) ∙ ap (λ k. take k fit) all ∙ take-length fit in
+    ap₂ (λ xs k. xs ++ drop k out) first (zero-add n ∙ all)
 
 loop-holds : tie.Need-loop-holds Inv-loop μ-loop
 loop-holds c = (omega arith, refl, refl)
@@ -73,9 +70,7 @@ same-length c = c .before .loop .inv .1
 returns : tie.Need-returns Inv-loop μ-loop
 returns c =
     let s = c .before .before .before .before .before .args in
-    let found = c .before .before .smaller .ensures in
-    let e : c .before .loop .k ≡ c .before .before .smaller .result = omega arith in
-    c .before .loop .inv .2 ∙ ap (paste (s .out .now) 0 (s .bytes .now)) e ∙ full (s .out .now) (s .bytes .now) (c .before .before .smaller .result) (found .2) (found .0) (found .1)
+    c .before .loop .inv .2 ∙ full (s .out .now) (s .bytes .now) (c .before .loop .k) (omega arith)
 
 pub copy-over-spec : {M : Type 1} → statement M
 copy-over-spec =

@@ -1,10 +1,11 @@
 -- The bytes that are copied are the answer's.
 use borrow.Author.Needs.{needs}
-use mathlib.Core.Path.{_≡_, sym, _∙_, ap}
+use mathlib.Core.Path.{_≡_, sym}
 use native.Mathlib.Omega.{arith}
 use Prim.Native.Nat.{_≤_}
 use lib.ListN.{length}
 use lib.Seq.{length-take-le}
+use Rattle.text.proofs.Adding.{first-of}
 use Rattle.exports.proofs.pulpmitten_answer_text.Statement.{statement}
 use Rattle.exports.proofs.pulpmitten_answer_text.Tie as tie
 
@@ -28,8 +29,8 @@ same-length c = search needs
 
 returns : tie.Need-returns
 returns c =
-    let a = c .before .before .before .before .before .before in
-    (sym (length-take-le _ _ (inside a)) ∙ ap length (a .answer-text .ensures .0), rw (a .answer-text .ensures .0) at (c .before .before .copy-over .ensures))
+    let printed = c .before .before .before .before .before .before .answer-text .ensures in
+    (printed .1 .0, rw (first-of _ _ (printed .0) (printed .1 .0)) at (c .before .before .copy-over .ensures))
 
 pub pulpmitten-answer-text-spec : {M : Type 1} → statement M
 pulpmitten-answer-text-spec =

@@ -1,6 +1,6 @@
 -- Either way out is what the answer says.
 use borrow.Author.Needs.{needs}
-use mathlib.Core.Path.{refl}
+use mathlib.Core.Path.{ap}
 use mir.Facts.{toZ-ofZ}
 use mir.Syntax.{w64}
 use mir.Val.{SFits}
@@ -19,7 +19,7 @@ unfolding says
 returns c =
     let o = c .before .outcome .given in
     let fits : SFits w64 (o .0 .0) = search needs in
-    rw (o .1, toZ-ofZ fits) refl
+    rw (o .1) (ap (λ v. record { number = 0; value = v; first = 0; second = 0 }) (toZ-ofZ fits))
 
 returns-2 : tie.Need-returns-2
 unfolding says

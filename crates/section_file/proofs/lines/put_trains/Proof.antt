@@ -55,7 +55,7 @@ loop-again c =
     let p : s .args .timing .running < 2 ^ 32 = search needs in
     let put = c .put-train .ensures in (
       omega arith,
-      omega (arith, put .ends, line-room (s .args .timing) (s .args .ones) k (getD (s .args .departures .now) k 0) (omega arith) d p),
+      omega (arith, put .added .ends, line-room (s .args .timing) (s .args .ones) k (getD (s .args .departures .now) k 0) (omega arith) d p),
       rw (next-line (λ i. kth-line (s .args .timing) (s .args .ones) i (getD (s .args .departures .now) i 0)) k) (put-on (at .loop .inv .2) put),
     )
 

@@ -29,13 +29,13 @@ room c = field-room _ (c .before .before .before .before .before .before .fits .
 put-requires-2 : tie.Need-put-requires-2
 put-requires-2 c κs =
     let v = c .before .before in
-    (v .put-field .ensures .whole, omega (arith, room v, v .before .before .put .ensures .ends))
+    (v .put-field .ensures .whole, omega (arith, room v, v .before .before .put .ensures .added .ends))
 
 put-trains-requires : tie.Need-put-trains-requires
 put-trains-requires c κs =
     let e = c .before in
     let v = e .before .before .before in
-    (e .put2 .ensures .whole, (v .before .before .before .before .before .before .pre .1 .1, omega (arith, e .put2 .ensures .ends, room v, v .before .before .put .ensures .ends)))
+    (e .put2 .ensures .whole, (v .before .before .before .before .before .before .pre .1 .1, omega (arith, e .put2 .ensures .added .ends, room v, v .before .before .put .ensures .added .ends)))
 
 returns : tie.Need-returns
 returns c =

@@ -7,6 +7,7 @@ use Prim.Native.Nat.{_≤_}
 use lib.ListN.{length, take}
 use lib.Seq.{length-take-le}
 use Rattle.text.specs.Written.{signed}
+use Rattle.text.proofs.Adding.{first-of}
 use Rattle.text.proofs.Decimal.{signed-length}
 use Rattle.section_file.proofs.page.put_number.Statement.{statement}
 use Rattle.section_file.proofs.page.put_number.Tie as tie
@@ -15,7 +16,7 @@ inside : (c : tie.After-number) → c .number .result .count ≤ length (c .numb
 inside c = let l : length (c .number .result .bytes) ≡ 20 = search needs in omega arith
 
 written : (c : tie.After-number) → take (c .number .result .count) (c .number .result .bytes) ≡ signed (c .before .args .n)
-written c = simp (toZ-ofZ (c .before .fits .n)) at (c .number .ensures .0)
+written c = let e = c .number .ensures in simp (toZ-ofZ (c .before .fits .n)) at (first-of _ _ (e .0) (e .1 .0))
 
 number-requires : tie.Need-number-requires
 number-requires c κs = search needs

@@ -14,7 +14,7 @@ use Rattle.text.proofs.read.fill.Statement.{statement}
 use Rattle.text.proofs.read.fill.Tie as tie
 
 abbrev Inv-loop : tie.InvT-loop
-Inv-loop text values₀ count₀ at₀ values count at = Begun text values count at
+Inv-loop text values₀ count₀ at₀ values count at = Begun text values₀ values count at
 
 abbrev μ-loop : tie.MeasureT-loop
 μ-loop text values₀ count₀ at₀ values count at = length text - at

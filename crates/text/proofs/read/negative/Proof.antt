@@ -2,13 +2,14 @@
 use borrow.Author.Needs.{needs, sfits-of}
 use lib.Dec.{T, leb→le}
 use lib.IntN.{pos, negℤ, +ℤ-idl}
+use mathlib.Core.Bool.{true, false}
 use mathlib.Core.Path.{sym, subst}
 use mir.Facts.{toZ-ofZ, toZ-pos, sfits-widen}
 use mir.Syntax.{w32, w64}
 use mir.Val.{SFits}
 use native.Mathlib.Omega.{arith}
 use Prim.Native.Nat.{_≤_, _<_, _^_}
-use Rattle.text.proofs.Amounts.{negative-capped, negated-fits, both}
+use Rattle.text.proofs.Amounts.{negative-is, negated-fits, both}
 use Rattle.text.proofs.read.negative.Statement.{statement}
 use Rattle.text.proofs.read.negative.Tie as tie
 
@@ -43,19 +44,11 @@ cast-t10 c = rw (toZ-pos w64 (below c), +ℤ-idl, toZ-ofZ (wide c)) (fits c)
 
 returns : tie.Need-returns
 returns c =
-    rw (
-      toZ-pos w64 (below c),
-      +ℤ-idl,
-      toZ-ofZ (wide c),
-      toZ-ofZ (fits c),
-      negative-capped,
-      ← c .before .plain .ensures,
-      ← c .before .before .capped .ensures,
-      c .if1 .taken,
-    )
+    rw (toZ-pos w64 (below c), +ℤ-idl, toZ-ofZ (wide c), toZ-ofZ (fits c))
+    (negative-is true _ (c .before .plain .ensures) (c .before .before .capped .ensures) (c .if1 .taken))
 
 returns-2 : tie.Need-returns-2
-returns-2 c = rw (negative-capped, ← c .before .plain .ensures, ← c .before .before .capped .ensures, c .if1 .left)
+returns-2 c = negative-is false _ (c .before .plain .ensures) (c .before .before .capped .ensures) (c .if1 .left)
 
 pub negative-spec : {M : Type 1} → statement M
 negative-spec =

@@ -7,7 +7,7 @@ use Prim.Native.Nat.{_≤_}
 use lib.IntN.{natAbs}
 use lib.ListN.{length}
 use Rattle.text.specs.Written.{decimal}
-use Rattle.text.proofs.Adding.{adds-both}
+use Rattle.text.proofs.Adding.{adds-both, adds-over}
 use Rattle.text.proofs.Decimal.{decimal-length, signed-below, signed-above}
 use Rattle.text.proofs.write.number.Statement.{statement}
 use Rattle.text.proofs.write.number.Tie as tie
@@ -25,14 +25,14 @@ byte-requires : tie.Need-byte-requires
 byte-requires c κs = search needs
 
 digits-requires : tie.Need-digits-requires
-digits-requires c κs = omega (arith, short (c .before .before), c .byte .ensures .counts)
+digits-requires c κs = omega (arith, short (c .before .before), c .byte .ensures .ends)
 
 returns : tie.Need-returns
 returns c =
     let m = c .before .before .before in
     let e = simp (toZ-ofZ (m .before .fits .n)) at (c .before .before .if1 .taken) in
-    let w = adds-both (c .before .byte .ensures) (c .digits .ensures) in
-    (rw (signed-below (m .before .args .n) e, ← size m) (w .shows), omega (arith, w .counts, short m))
+    let w = adds-over (adds-both (c .before .byte .ensures) (c .digits .ensures)) in
+    rw (signed-below (m .before .args .n) e, ← size m) (w .0, (w .1, omega (arith, w .1, short m)))
 
 digits-requires-2 : tie.Need-digits-requires-2
 digits-requires-2 c κs = omega (arith, short (c .before))
@@ -41,8 +41,8 @@ returns-2 : tie.Need-returns-2
 returns-2 c =
     let m = c .before .before in
     let e = simp (toZ-ofZ (m .before .fits .n)) at (c .before .if1 .left) in
-    let w = c .digits2 .ensures in
-    (rw (signed-above (m .before .args .n) e, ← size m) (w .shows), omega (arith, w .counts, short m))
+    let w = adds-over (c .digits2 .ensures) in
+    rw (signed-above (m .before .args .n) e, ← size m) (w .0, (w .1, omega (arith, w .1, short m)))
 
 pub number-spec : {M : Type 1} → statement M
 number-spec =

@@ -57,7 +57,7 @@ module _ (t : ℕ) where
   add-byte-2 c = search needs
 
   byte-requires-2 : digits-lts.Need-byte-requires-2 (calls t) (digits-at t) digits.Post
-  byte-requires-2 c κs = omega (arith, room (c .before), c .digits .ensures .counts)
+  byte-requires-2 c κs = omega (arith, room (c .before), c .digits .ensures .ends)
 
   returns-2 : digits-lts.Need-returns-2 (calls t) (digits-at t) digits.Post
   returns-2 c =

@@ -1,0 +1,2 @@
+-- What the exported promises leave open: nothing.
+pub mod Unique
