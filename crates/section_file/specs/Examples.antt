@@ -1,5 +1,5 @@
 -- The page's example and a few other texts with their answers: the definitions are computed on every row.
--- The answers come from the page, not from a run.
+-- D has the page's lines; the others were worked out by hand from the page's cases and its grammar. None comes from a run.
 use mathlib.Core.List.{List, [], _∷_, map}
 use mathlib.Core.Path.{_≡_, refl}
 use Prim.Native.Nat.{ℕ}
