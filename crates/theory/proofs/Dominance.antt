@@ -52,17 +52,17 @@ module _ (L : Line) (P : Lawful L) where
   leads h (Pairs.more ls p) (All.more a bs) =
       All.more (leaves_first L P h a) (together (λ t l b. leaves_first L P (omega arith) b) ls bs)
 
-  pub merge_pairs : {rs ss : List (Run Train)}
+  pub merge_pairs : (rs ss : List (Run Train))
       → Pairs (Leaves L) rs → Pairs (Leaves L) ss → All (λ r. All (Apart L r) ss) rs → Pairs (Leaves L) (merge rs ss)
-  merge_pairs Pairs.none q a = q
-  merge_pairs (Pairs.more ls p) Pairs.none a = Pairs.more ls p
-  merge_pairs (Pairs.more {x = r} ls p) (Pairs.more {x = s} ms q) a =
-      let first : Pairs (Leaves L) _ = Pairs.more ls p in
-      let second : Pairs (Leaves L) _ = Pairs.more ms q in
+  merge_pairs [] ss p q a = q
+  merge_pairs (r ∷ rs) [] p q a = p
+  merge_pairs (r ∷ rs) (s ∷ ss) (Pairs.more ls p) (Pairs.more ms q) a =
+      let first : Pairs (Leaves L) (r ∷ rs) = Pairs.more ls p in
+      let second : Pairs (Leaves L) (s ∷ ss) = Pairs.more ms q in
       let turned : All (Apart L s) _ = each (λ t b. apart_turn L t s (of_first b)) a in
       pick_ind (Pairs (Leaves L)) (dec_le r.departure s.departure)
-      (λ h. Pairs.more (merge_all ls (leads h second (of_first a))) (merge_pairs p second (of_rest a)))
-      (λ n. Pairs.more (merge_all (leads (omega arith) first turned) ms) (merge_pairs first q (each (λ t. of_rest) a)))
+      (λ h. Pairs.more (merge_all ls (leads h second (of_first a))) (merge_pairs rs (s ∷ ss) p second (of_rest a)))
+      (λ n. Pairs.more (merge_all (leads (omega arith) first turned) ms) (merge_pairs (r ∷ rs) ss first q (each (λ t. of_rest) a)))
 
   pub dominance : {rs ss : List (Run Train)} → Pairs (Leaves L) rs → Pairs (Leaves L) ss
       → All (λ r. All (Apart L r) ss) rs
@@ -70,5 +70,5 @@ module _ (L : Line) (P : Lawful L) where
       → All (λ r. Good r.train) rs → All (λ s. Good s.train) ss
       → best L early (trains rs) (trains ss) ≼ worth L rs ⊙ worth L ss
   dominance {rs} {ss} p q a e f g h =
-      let cheap = waiting L P (merge_pairs p q a) (merge_all e f) (merge_all g h) in
+      let cheap = waiting L P (merge_pairs rs ss p q a) (merge_all e f) (merge_all g h) in
       rw (← merge_worth rs ss) (ordered.trans (below L P early (trains rs) (trains ss) _ (merge_listed rs ss)) cheap)

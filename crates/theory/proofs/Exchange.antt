@@ -88,13 +88,13 @@ module _ (L : Line) (O : Ordered L.values) (Fit : L.Train → Type 0) (ahead : L
       Exchanged (record { train = y; departure = e } ∷ paired q ds) (paired p es)
   enter (first a) (first b) r s g gs l = listed (perm_same _)
   enter (first a) (later k n) Pairs.none s g gs l = absurd (omega arith)
-  enter (first (All.more h a)) (later k n) (Pairs.more b r) (Pairs.more c s) g (All.more g' gs) l =
-      then (trade g g' h (no_larger (λ d. d) k)) (keep (enter (first b) n r s g' gs (omega arith)))
+  enter {e = e} (first (All.more h a)) (later k n) (Pairs.more {x = x} b r) (Pairs.more c s) g (All.more g' gs) l =
+      then (trade g g' h (no_larger (λ d. d) k)) (keep (enter {y = x} {e = e} (first b) n r s g' gs (omega arith)))
   enter (later h m) (first b) (Pairs.more c r) Pairs.none g gs l = absurd (omega arith)
-  enter (later h m) (first (All.more k b)) (Pairs.more c r) (Pairs.more d s) g (All.more g' gs) l =
-      then (listed turn) (then (trade g' g h (no_larger (λ d. d) k)) (keep (enter m (first d) r s g gs (omega arith))))
-  enter (later h m) (later k n) (Pairs.more c r) (Pairs.more d s) g (All.more g' gs) l =
-      then (listed turn) (keep (enter m n r s g gs (omega arith)))
+  enter {y = y} (later h m) (first (All.more k b)) (Pairs.more c r) (Pairs.more {x = d'} d s) g (All.more g' gs) l =
+      then (listed turn) (then (trade g' g h (no_larger (λ d. d) k)) (keep (enter {y = y} {e = d'} m (first d) r s g gs (omega arith))))
+  enter {y = y} {e = e} (later h m) (later k n) (Pairs.more c r) (Pairs.more d s) g (All.more g' gs) l =
+      then (listed turn) (keep (enter {y = y} {e = e} m n r s g gs (omega arith)))
 
   joined :
       (rs : List (Run Train)) {q : List Train} {ds : List ℕ} → Pairs (Before ahead) q → Pairs (Before ltb) ds →

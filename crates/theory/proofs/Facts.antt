@@ -39,6 +39,7 @@ module _ {X : Type 0} where
     of_rest (All.more p ps) = ps
 
     pub at : {x : X} {xs : List X} → All P xs → Memᴰ x xs → P x
+    at All.none m = elim m [ ]
     at (All.more p ps) (Memᴰ.head e) = rw e p
     at (All.more p ps) (Memᴰ.tail m) = at ps m
 
@@ -82,6 +83,6 @@ pairs_mapped f (Pairs.more a ps) = Pairs.more (all_mapped f a) (pairs_mapped f p
 
 -- a fact of each element of one list with each of another, from the other list's side
 pub across : {X Y : Type 0} {P : X → Y → Type 0} {Q : Y → X → Type 0} → ((x : X) (y : Y) → P x y → Q y x)
-    → {xs : List X} (ys : List Y) → All (λ x. All (P x) ys) xs → All (λ y. All (Q y) xs) ys
+    → (ys : List Y) {xs : List X} → All (λ x. All (P x) ys) xs → All (λ y. All (Q y) xs) ys
 across f ys All.none = all_any (λ y. All.none) ys
 across f ys (All.more {x = x} a b) = together (λ y p q. All.more (f x y p) q) a (across f ys b)

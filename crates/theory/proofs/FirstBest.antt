@@ -13,7 +13,7 @@ use mathlib.Core.List.{
 use Rattle.theory.specs.Values.{Values}
 use Rattle.theory.specs.Line.{Line, Lawful}
 use Rattle.theory.specs.Schedule.{Clock, after, leave, worth}
-use Rattle.theory.specs.Orders.{days, least, leftmost, first_best, best, walk, best_day}
+use Rattle.theory.specs.Orders.{pick, days, least, leftmost, first_best, best, walk, best_day}
 use Rattle.theory.proofs.Choices.{pick_yes, pick_no, pick_ind}
 use Rattle.theory.proofs.Values.{at_most, least_left}
 use Rattle.theory.proofs.Best.{alone_first, alone_second, through, below}
@@ -57,7 +57,7 @@ module _ (W : Values) {X : Type 0} {f : X → W.Val} {goal : W.Val} where
   moves : {x y : X} {xs : List X} → First W f goal x xs → ¬ (f y ≼ goal) → leftmost W f y xs ≡ x
   moves {x} {y} (here {xs = xs} e h) n = rw (pick_no (compare (f y) (f x)) y x (rw e n)) (stays xs e h)
   moves {y = y} (later {z = z} k t) n =
-      moves t (pick_ind (λ w. ¬ (f w ≼ goal)) (compare (f y) (f z)) (λ _. n) (λ _. k))
+      moves {y = pick (compare (f y) (f z)) y z} t (pick_ind (λ w. ¬ (f w ≼ goal)) (compare (f y) (f z)) (λ _. n) (λ _. k))
 
 found_map : (W : Values) {X Y : Type 0} (f : Y → W.Val) (g : X → Y) {goal : W.Val} {x : X} {xs : List X}
     → First W (λ z. f (g z)) goal x xs → First W f goal (g x) (map g xs)

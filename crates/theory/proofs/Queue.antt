@@ -65,7 +65,7 @@ module _ {X : Type 0} (ahead : X → X → Bool) where
 
     join_sorted : {q : List X} (xs : List X) → Pairs (Before ahead) q → Pairs (Before ahead) (join ahead q xs)
     join_sorted [] r = r
-    join_sorted (x ∷ xs) r = join_sorted xs (put_sorted x r)
+    join_sorted {q} (x ∷ xs) r = join_sorted {q = put ahead x q} xs (put_sorted x r)
 
     pub queue_sorted : (xs : List X) → Pairs (Before ahead) (queue ahead xs)
     queue_sorted xs = join_sorted xs Pairs.none
