@@ -1,7 +1,9 @@
 // The line as code: how long a departure waits for the one before it, and when a train arrives.
 // A station is told by whether it is station 1.
+#![tactic(auto)]
+
 ghost use Rattle.std.specs.Prelude.{◌≡◌, ◌+◌, ◌-◌};
-ghost use Rattle.rules.specs.Line.{gap as gap_of, arrival as arrival-at, apart as Apart-of, same_station};
+ghost use Rattle.rules.specs.Line.{gap as gap_of, arrival as arrival_at, apart as apart_of, same_station};
 ghost use Rattle.line.specs.Station.{station};
 
 use rules::Timing;
@@ -33,8 +35,9 @@ pub fn gap(timing: Timing, from_one: bool, next_one: bool) -> u32
 }
 
 // The second at which a train arrives that leaves at a departure.
+#[tactic(auto, unfolding(rules::specs::Line::arrival, rules::specs::Line::running))]
 pub fn arrival(timing: Timing, from_one: bool, departure: u32) -> u64
-    ensures { result ≡ arrival-at timing (station from_one) departure }
+    ensures { result ≡ arrival_at timing (station from_one) departure }
 {
     departure as u64 + timing.running as u64
 }
@@ -51,7 +54,7 @@ fn between(departure: u32, departed: u32) -> u32
 
 // Whether two departures are at least the gap apart.
 pub fn apart(timing: Timing, one: bool, departure: u32, other: bool, departed: u32) -> bool
-    ensures { result ≡ Apart-of timing (station one) departure (station other) departed }
+    ensures { result ≡ apart_of timing (station one) departure (station other) departed }
 {
     gap(timing, one, other) <= between(departure, departed)
 }

@@ -2,7 +2,7 @@
 // Everything but `plan` is private.
 ghost use Rattle.std.specs.Prelude.{[], ◌≡◌, ◌+◌, length};
 ghost use Rattle.rules.specs.Trains.{asked};
-ghost use Rattle.rules.specs.Orders.{best_value, plan as plan-of};
+ghost use Rattle.rules.specs.Orders.{best_value, plan as plan_of};
 ghost use Rattle.rules.specs.Refusals.{refusals};
 ghost use Rattle.rules.specs.Answers.{says, planner_answers, planner_leaves};
 ghost use Rattle.planner.specs.Day.{Tables};
@@ -36,7 +36,7 @@ fn scheduled(
     requires tables { Tables (asked_by terms one.now two.now) counts.old changes.old 0 }
     requires departures_len { length departures.old ≡ terms.ones + terms.twos }
     ensures value { result ≡ best_value (asked_by terms one.now two.now) }
-    ensures departures_after { departures.new ≡ plan-of (asked_by terms one.now two.now) }
+    ensures departures_after { departures.new ≡ plan_of (asked_by terms one.now two.now) }
 {
     tables::fill(terms, one, two, first, second, counts, changes);
     let goal = walk::goal(terms, one, two, first, second, counts, changes);
@@ -62,7 +62,7 @@ fn scheduled(
 fn planned(objective: u32, timing: Timing, one: &[i32], two: &[i32], departures: &mut [u32]) -> i64
     requires { refusals (asked objective timing one.now two.now) (length departures.old) ≡ [] }
     ensures value { result ≡ best_value (asked objective timing one.now two.now) }
-    ensures departures_after { departures.new ≡ plan-of (asked objective timing one.now two.now) }
+    ensures departures_after { departures.new ≡ plan_of (asked objective timing one.now two.now) }
 {
     let numbers = costs::numbers(objective);
     let terms = Terms {

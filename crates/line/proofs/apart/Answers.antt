@@ -1,16 +1,11 @@
 -- The gap is the same both ways, so that two departures are apart exactly where the seconds between them reach it.
-use borrow.Author.Rules.{rules}
 use borrow.Author.Tests.{leb-true, leb-false, le-leb, lt-leb}
-use mathlib.Core.Bool.{Bool, true, false, ◌||◌}
-use mathlib.Core.Path.{◌≡◌, refl}
-use native.Mathlib.Omega.{arith}
-use Prim.Native.Nat.{ℕ, ◌+◌, ◌-◌}
+use Rattle.std.proofs.Common.{Bool, true, false, ◌||◌, ◌≡◌, refl, arith, ℕ, ◌+◌, ◌-◌}
 use lib.Dec.{leb}
 use Rattle.rules.specs.declared.Timing.{Timing}
 use Rattle.rules.specs.Line.{Station, one, two, gap, apart}
 use Rattle.line.specs.Station.{station}
-use Rattle.line.proofs.apart.Statement.{statement}
-use Rattle.line.proofs.apart.Tie as tie
+use Rattle.line.proofs.apart.Goals as goal
 
 both_ways : (t : Timing) (s s' : Station) → gap t s' s ≡ gap t s s'
 both_ways t one one = refl
@@ -24,18 +19,9 @@ reached d e g false true p q = le-leb g ((d - e) + (e - d)) (omega (arith, leb-t
 reached d e g false false p q =
     lt-leb g ((d - e) + (e - d)) (omega (arith, leb-false (d + g) e p, leb-false (e + g) d q))
 
-gap-requires : tie.Need-gap-requires
-gap-requires c κs = search rules
-
-between-requires : tie.Need-between-requires
-between-requires c κs = search rules
-
-returns : tie.Need-returns
+pub returns : goal.returns
 unfolding apart
 returns c =
-    let s = c.before.before.args in
-    rw (c.before.gap.ensures, c.between.ensures, both_ways s.timing (station s.one) (station s.other))
+    let s = c.args in
+    rw (c.gap.ensures, c.between.ensures, both_ways s.timing (station s.one) (station s.other))
     (reached s.departure s.departed (gap s.timing (station s.one) (station s.other)) _ _ refl refl)
-
-pub apart-spec : {M : Type 1} → statement M
-apart-spec = tie.close (tie.spec gap-requires between-requires returns)
