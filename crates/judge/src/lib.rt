@@ -1,5 +1,7 @@
 // The judge: what a recorded schedule is worth, or what is wrong with it.
 // Everything but `judge` is private.
+#![tactic(auto)]
+
 ghost use Rattle.std.specs.Prelude.{[], ◌≡◌, length};
 ghost use Rattle.rules.specs.Refusals.{refusals};
 ghost use Rattle.rules.specs.Answers.{says, judge_answers};

@@ -71,7 +71,7 @@ pub fn count_cell(
     requires chooses { (one : Bool) → Chooses terms (after one (cell_clock 0 0 ones twos)) x.now y.now counts.now changes.now }
     requires rates { Rates terms.objective x.now y.now ones twos counts.now }
     ensures pairs { Pairs 1 (λ k one. best_by terms (after one (cell_clock 0 0 ones twos)) x.now y.now counts.now changes.now) result }
-    ensures pos_value { get_or result 2 (pos 0) ≡ rate terms.objective x.now y.now ones twos counts.now }
+    ensures rises { get_or result 2 (pos 0) ≡ rate terms.objective x.now y.now ones twos counts.now }
 {
     let clock = Clock {
         begun: true,

@@ -67,7 +67,7 @@ impl Clock {
     // The clock once a station's next train has left, as early as it can; the value is that of this train alone.
     pub fn alone(self, terms: Terms, one: bool, figures: &[i32]) -> Clock
         requires near { Near terms.timing self }
-        requires twos_nonzero { 0 < cond one self.ones self.twos }
+        requires left { 0 < cond one self.ones self.twos }
         ensures { result ≡ alone terms self one figures.now }
     {
         let timing = terms.timing;
@@ -87,8 +87,8 @@ impl Clock {
     // The next clock: a station's next train has left, and its cost is joined to the value so far.
     pub fn next(self, terms: Terms, one: bool, figures: &[i32]) -> Clock
         requires near { Near terms.timing self }
-        requires twos_nonzero { 0 < cond one self.ones self.twos }
-        requires sfits { SFits w64 (next terms self one figures.now).value }
+        requires left { 0 < cond one self.ones self.twos }
+        requires fits { SFits w64 (next terms self one figures.now).value }
         ensures { result ≡ next terms self one figures.now }
     {
         let mut clock = self.alone(terms, one, figures);

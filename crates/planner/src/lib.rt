@@ -1,5 +1,7 @@
 // The planner: the best departures of a section's trains, with their value, or what is wrong with the call.
 // Everything but `plan` is private.
+#![tactic(auto)]
+
 ghost use Rattle.std.specs.Prelude.{[], ◌≡◌, ◌+◌, length};
 ghost use Rattle.rules.specs.Trains.{asked};
 ghost use Rattle.rules.specs.Orders.{best_value, plan as plan_of};
@@ -34,9 +36,9 @@ fn scheduled(
 ) -> i64
     requires planning { Planning terms one.now two.now first.now second.now }
     requires tables { Tables (asked_by terms one.now two.now) counts.old changes.old 0 }
-    requires departures_len { length departures.old ≡ terms.ones + terms.twos }
+    requires one_each { length departures.old ≡ terms.ones + terms.twos }
     ensures value { result ≡ best_value (asked_by terms one.now two.now) }
-    ensures departures_after { departures.new ≡ plan_of (asked_by terms one.now two.now) }
+    ensures leaves { departures.new ≡ plan_of (asked_by terms one.now two.now) }
 {
     tables::fill(terms, one, two, first, second, counts, changes);
     let goal = walk::goal(terms, one, two, first, second, counts, changes);
@@ -62,7 +64,7 @@ fn scheduled(
 fn planned(objective: u32, timing: Timing, one: &[i32], two: &[i32], departures: &mut [u32]) -> i64
     requires { refusals (asked objective timing one.now two.now) (length departures.old) ≡ [] }
     ensures value { result ≡ best_value (asked objective timing one.now two.now) }
-    ensures departures_after { departures.new ≡ plan_of (asked objective timing one.now two.now) }
+    ensures leaves { departures.new ≡ plan_of (asked objective timing one.now two.now) }
 {
     let numbers = costs::numbers(objective);
     let terms = Terms {
@@ -95,8 +97,8 @@ pub fn plan(
     two: &[i32],
     departures: &mut [u32],
 ) -> Answer
-    ensures result_value { says result ≡ planner_answers (asked objective timing one.now two.now) (length departures.old) }
-    ensures departures_after { departures.new ≡ planner_leaves (asked objective timing one.now two.now) departures.old }
+    ensures answers { says result ≡ planner_answers (asked objective timing one.now two.now) (length departures.old) }
+    ensures leaves { departures.new ≡ planner_leaves (asked objective timing one.now two.now) departures.old }
     ensures best_left { BestLeft (asked objective timing one.now two.now) result departures.new }
 {
     let call = refusals::refusal(objective, timing, one, two, departures.len());

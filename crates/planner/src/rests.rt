@@ -42,7 +42,7 @@ pub fn day(
     changes: &[[[i64; 48]; 13]; 13],
 ) -> i64
     requires held { Held objective clock counts.now changes.now }
-    requires sfits { SFits w64 (day objective clock (looked_up objective clock counts.now changes.now)) }
+    requires fits { SFits w64 (day objective clock (looked_up objective clock counts.now changes.now)) }
     ensures { result ≡ day objective clock (looked_up objective clock counts.now changes.now) }
 {
     if clock.ones == 0 {

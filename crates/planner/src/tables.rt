@@ -20,7 +20,7 @@ fn fill_cell(
     changes: &mut [[[i64; 48]; 13]; 13],
 )
     requires planning { Planning terms one.now two.now first.now second.now }
-    requires ones_le_ones { (ones ≤ terms.ones) × (twos ≤ terms.twos) }
+    requires within { (ones ≤ terms.ones) × (twos ≤ terms.twos) }
     requires tables { Tables (asked_by terms one.now two.now) counts.old changes.old (ones * 49 + twos) }
     ensures { Tables (asked_by terms one.now two.now) counts.new changes.new (ones * 49 + twos + 1) }
 {
@@ -47,7 +47,7 @@ fn fill_row(
     changes: &mut [[[i64; 48]; 13]; 13],
 )
     requires planning { Planning terms one.now two.now first.now second.now }
-    requires ones_le_ones { ones ≤ terms.ones }
+    requires within { ones ≤ terms.ones }
     requires tables { Tables (asked_by terms one.now two.now) counts.old changes.old (ones * 49) }
     ensures { Tables (asked_by terms one.now two.now) counts.new changes.new ((ones + 1) * 49) }
 {

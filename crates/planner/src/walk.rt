@@ -57,7 +57,7 @@ fn step(
     requires tables { Tables (asked_by terms one.now two.now) counts.now changes.now ((terms.ones + 1) * 49) }
     requires running { Running (asked_by terms one.now two.now) clock }
     requires counted { Counted (asked_by terms one.now two.now) clock }
-    requires twos_nonzero { 0 < clock.ones + clock.twos }
+    requires left { 0 < clock.ones + clock.twos }
     ensures { result ≡ step (asked_by terms one.now two.now) goal clock }
 {
     if 0 < clock.ones {
@@ -89,7 +89,7 @@ pub fn walk(
 )
     requires planning { Planning terms one.now two.now first.now second.now }
     requires tables { Tables (asked_by terms one.now two.now) counts.now changes.now ((terms.ones + 1) * 49) }
-    requires times1_len { (length times1.old ≡ 48) × (length times2.old ≡ 48) }
+    requires room { (length times1.old ≡ 48) × (length times2.old ≡ 48) }
     ensures { Walks (asked_by terms one.now two.now) goal times1.new times2.new }
 {
     let mut clock = begin(terms);

@@ -23,9 +23,9 @@ pub fn write_both(
     times1: &[u32; 48],
     times2: &[u32; 48],
 )
-    requires n_in_bounds { n ≤ length departures.old }
-    requires covers { Covers n first.now }
-    requires covers_2 { Covers (length departures.old - n) second.now }
+    requires split { n ≤ length departures.old }
+    requires first_covers { Covers n first.now }
+    requires second_covers { Covers (length departures.old - n) second.now }
     ensures { BothInListOrder n (length departures.old - n) first.now second.now times1.now times2.now departures.new }
 {
     write(&mut departures[..n], first, times1);

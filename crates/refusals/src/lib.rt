@@ -1,5 +1,7 @@
 // What is refused of a call, planner's and judge's alike: the first of refusals 1 to 7 that applies.
 // specs/Trains has the definitions that the contracts below cite beside the rules'.
+#![tactic(auto)]
+
 ghost use Rattle.std.specs.Prelude.{◌&&◌, not, ◌≡◌, ◌%◌, ◌≤◌, eqb, ltb, pos, length};
 ghost use Rattle.rules.specs.Line.{good_timing};
 ghost use Rattle.rules.specs.Objectives.{aim_of};

@@ -10,8 +10,8 @@ use rules::Timing;
 
 // How many trains are printed: no section with more than 96 is accepted.
 fn printed_count(count: usize) -> usize
-    ensures value { result ≡ cond (leb count 96) count 0 }
-    ensures upper_bound { result ≤ 96 }
+    ensures printed { result ≡ cond (leb count 96) count 0 }
+    ensures within { result ≤ 96 }
 {
     if count <= 96 { count } else { 0 }
 }
@@ -25,8 +25,8 @@ fn put_planned(
     two: &[i32],
     departures: &mut [u32],
 ) -> usize
-    requires page_len { length page.old ≡ 8192 }
-    requires departures_len { length departures.old ≡ count (asked objective timing one.now two.now) }
+    requires whole_page { length page.old ≡ 8192 }
+    requires one_each { length departures.old ≡ count (asked objective timing one.now two.now) }
     ensures { Put page.old 0 (plan_lines (asked objective timing one.now two.now)) page.new result }
 {
     let ones = one.len() / costs::numbers(objective);

@@ -23,8 +23,8 @@ fn put_unreadable(page: &mut [u8; 8192]) -> usize
 
 // Copies recorded departures, of which none is below 0.
 fn copy(recorded: &[i32], departures: &mut [u32])
-    requires departures_len { length departures.old ≡ length recorded.now }
-    requires t { T (every (le_z (pos 0)) recorded.now) }
+    requires as_many { length departures.old ≡ length recorded.now }
+    requires not_negative { T (every (le_z (pos 0)) recorded.now) }
     ensures { departures.new ≡ map nat_abs recorded.now }
 {
     let n = recorded.len();
@@ -43,9 +43,9 @@ fn put_recorded(
     recorded: &[i32],
     departures: &mut [u32],
 ) -> usize
-    requires page_len { length page.old ≡ 8192 }
-    requires departures_len { (length departures.old ≡ length recorded.now) × (0 < length recorded.now) }
-    requires t { T (every (le_z (pos 0)) recorded.now) }
+    requires whole_page { length page.old ≡ 8192 }
+    requires as_many { (length departures.old ≡ length recorded.now) × (0 < length recorded.now) }
+    requires not_negative { T (every (le_z (pos 0)) recorded.now) }
     ensures { Put page.old 0 (answered (file (asked objective timing one.now two.now) (map nat_abs recorded.now))) page.new result }
 {
     copy(recorded, departures);
@@ -64,7 +64,7 @@ fn part<'a>(values: &'a [i32], span: Span) -> &'a [i32]
 
 // Puts the answer to a file whose numbers have this layout.
 fn put_file(page: &mut [u8; 8192], values: &[i32], layout: Layout) -> usize
-    requires page_len { length page.old ≡ 8192 }
+    requires whole_page { length page.old ≡ 8192 }
     requires placed { Placed values.now layout }
     ensures { Put page.old 0 (answered (file_shown values.now (Found.File layout))) page.new result }
 {

@@ -1,5 +1,7 @@
 // The section file: from its bytes to the bytes of the answer.
 // Everything but `answer_text` is private.
+#![tactic(auto)]
+
 ghost use Rattle.std.specs.Prelude.{◌≡◌, ◌≤◌, length, replicate};
 ghost use Rattle.text.specs.Over.{over};
 ghost use Rattle.section_file.specs.Answer.{answer};

@@ -11,8 +11,8 @@ use rules::{Answer, Outcome, Timing};
 
 // Puts a space and a number.
 fn put_field(page: &mut [u8; 8192], at: usize, n: i64) -> usize
-    requires page_len { length page.old ≡ 8192 }
-    requires at_bound { at + 21 ≤ 8192 }
+    requires whole_page { length page.old ≡ 8192 }
+    requires room { at + 21 ≤ 8192 }
     ensures { Put page.old at (32 ∷ signed n) page.new result }
 {
     let after = page::put(page, at, b" ");
@@ -21,8 +21,8 @@ fn put_field(page: &mut [u8; 8192], at: usize, n: i64) -> usize
 
 // Puts three numbers, each after a space, and ends the line.
 fn put_three(page: &mut [u8; 8192], at: usize, a: i64, b: i64, c: i64) -> usize
-    requires page_len { length page.old ≡ 8192 }
-    requires at_bound { at + 64 ≤ 8192 }
+    requires whole_page { length page.old ≡ 8192 }
+    requires room { at + 64 ≤ 8192 }
     ensures { Put page.old at (32 ∷ line (signed a ∷ signed b ∷ signed c ∷ [])) page.new result }
 {
     let first = put_field(page, at, a);
@@ -54,8 +54,8 @@ fn put_train(
     k: usize,
     departure: u32,
 ) -> usize
-    requires page_len { length page.old ≡ 8192 }
-    requires at_bound { (at + 84 ≤ 8192) × (k ≤ 96) }
+    requires whole_page { length page.old ≡ 8192 }
+    requires room { (at + 84 ≤ 8192) × (k ≤ 96) }
     ensures { Put page.old at (kth_line timing ones k departure) page.new result }
 {
     let arrival = line::arrival(timing, k < ones, departure) as i64;
@@ -73,8 +73,8 @@ fn put_trains(
     ones: usize,
     departures: &[u32],
 ) -> usize
-    requires page_len { length page.old ≡ 8192 }
-    requires departures_len_bound { (length departures.now ≤ 96) × (at + length departures.now * 84 ≤ 8192) }
+    requires whole_page { length page.old ≡ 8192 }
+    requires room { (length departures.now ≤ 96) × (at + length departures.now * 84 ≤ 8192) }
     ensures { Put page.old at (lines_of timing ones departures.now) page.new result }
 {
     let mut end = at;
@@ -95,8 +95,8 @@ fn put_value(
     ones: usize,
     departures: &[u32],
 ) -> usize
-    requires page_len { length page.old ≡ 8192 }
-    requires word_len_bound { (length word.now ≤ 7) × (length departures.now ≤ 96) }
+    requires whole_page { length page.old ≡ 8192 }
+    requires short { (length word.now ≤ 7) × (length departures.now ≤ 96) }
     ensures { Put page.old 0 (printed_with word.now (value_is value) (lines_of timing ones departures.now)) page.new result }
 {
     let named = page::put(page, 0, word);
@@ -123,8 +123,8 @@ pub fn put_answer(
     ones: usize,
     departures: &[u32],
 ) -> usize
-    requires page_len { length page.old ≡ 8192 }
-    requires word_len_bound { (length word.now ≤ 7) × (length departures.now ≤ 96) }
+    requires whole_page { length page.old ≡ 8192 }
+    requires short { (length word.now ≤ 7) × (length departures.now ≤ 96) }
     ensures { Put page.old 0 (printed_with word.now (says answer) (lines_of timing ones departures.now)) page.new result }
 {
     let outcome = answer.outcome;

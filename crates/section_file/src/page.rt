@@ -5,8 +5,8 @@ ghost use Rattle.section_file.specs.Page.{Put};
 
 // Puts bytes onto a page after the first `at` bytes, and answers where they end.
 pub fn put(page: &mut [u8; 8192], at: usize, bytes: &[u8]) -> usize
-    requires page_len { length page.old ≡ 8192 }
-    requires bytes_bound { at + length bytes.now ≤ 8192 }
+    requires whole_page { length page.old ≡ 8192 }
+    requires room { at + length bytes.now ≤ 8192 }
     ensures { Put page.old at bytes.now page.new result }
 {
     let n = bytes.len();
@@ -18,8 +18,8 @@ pub fn put(page: &mut [u8; 8192], at: usize, bytes: &[u8]) -> usize
 
 // Puts a number.
 pub fn put_number(page: &mut [u8; 8192], at: usize, n: i64) -> usize
-    requires page_len { length page.old ≡ 8192 }
-    requires at_bound { at + 20 ≤ 8192 }
+    requires whole_page { length page.old ≡ 8192 }
+    requires room { at + 20 ≤ 8192 }
     ensures { Put page.old at (signed n) page.new result }
 {
     let written = text::write::number(n);
