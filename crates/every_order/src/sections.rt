@@ -5,7 +5,7 @@ use crate::random;
 use rules::Timing;
 
 // Station 1 has the trains with numbers below `ones`, station 2 the rest.
-#[derive(Drop)]
+#[derive(Clone, Copy)]
 pub struct Section {
     pub objective: u32,
     pub timing: Timing,

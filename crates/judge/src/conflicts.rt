@@ -58,7 +58,7 @@ fn conflict_after(listed: bool, timing: Timing, n: usize, departures: &[u32], i:
 }
 
 // Two trains by number.
-#[derive(Drop)]
+#[derive(Clone, Copy)]
 pub struct Pair {
     pub first: usize,
     pub second: usize,

@@ -7,7 +7,7 @@ ghost use Rattle.planner.specs.Clock.{departs, changed, Near, alone, next};
 use rules::Timing;
 
 // What is planned for: the objective, the timing, and how many trains the stations have.
-#[derive(Drop)]
+#[derive(Clone, Copy)]
 pub struct Terms {
     pub objective: u32,
     pub timing: Timing,
@@ -16,7 +16,7 @@ pub struct Terms {
 }
 
 // How far a day has come.
-#[derive(Drop)]
+#[derive(Clone, Copy)]
 pub struct Clock {
     // whether a train has left; if so, whether the last one was station 1's, and when it left
     pub begun: bool,

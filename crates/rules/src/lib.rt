@@ -2,14 +2,14 @@
 // What they mean, and every rule of the line, stands in specs/.
 
 // Seconds between departures: a train's running time from one station to the other, and the headway behind a train of the same station.
-#[derive(Drop)]
+#[derive(Clone, Copy)]
 pub struct Timing {
     pub running: u32,
     pub headway: u32,
 }
 
 // The value of a schedule; or the refusal's number, and the two places that it names.
-#[derive(Drop)]
+#[derive(Clone, Copy)]
 pub enum Outcome {
     Value(i64),
     Refused {
@@ -19,7 +19,7 @@ pub enum Outcome {
     },
 }
 
-#[derive(Drop)]
+#[derive(Clone, Copy)]
 pub struct Answer {
     pub outcome: Outcome,
 }

@@ -5,20 +5,20 @@ ghost use Rattle.rules.specs.Lists.{every};
 ghost use Rattle.section_file.specs.Found.{Parted, Laid};
 
 // A section's numbers among all: from a place up to another.
-#[derive(Drop)]
+#[derive(Clone, Copy)]
 pub struct Span {
     pub start: usize,
     pub end: usize,
 }
 
-#[derive(Drop)]
+#[derive(Clone, Copy)]
 pub enum Part {
     Of(Span),
     Not,
 }
 
 // The heading, and where the three lists stand.
-#[derive(Drop)]
+#[derive(Clone, Copy)]
 pub struct Layout {
     pub objective: u32,
     pub running: u32,
@@ -28,7 +28,7 @@ pub struct Layout {
     pub recorded: Span,
 }
 
-#[derive(Drop)]
+#[derive(Clone, Copy)]
 pub enum Found {
     File(Layout),
     Unreadable,

@@ -13,7 +13,7 @@ mod lines;
 mod page;
 
 // The first `count` bytes are an answer's; those after them are 0.
-#[derive(Drop)]
+#[derive(Clone, Copy)]
 pub struct Printed {
     pub bytes: [u8; 8192],
     pub count: usize,

@@ -7,14 +7,14 @@ ghost use Rattle.text.specs.Pieces.{word_length, capped};
 ghost use Rattle.text.specs.Read.{Reads};
 
 // What a word is: a number of 32 signed bits, or none.
-#[derive(Drop)]
+#[derive(Clone, Copy)]
 pub enum Number {
     Is(i32),
     Not,
 }
 
 // What a text is: so many numbers, or unreadable.
-#[derive(Drop)]
+#[derive(Clone, Copy)]
 pub enum Scan {
     All(usize),
     Bad,

@@ -5,7 +5,7 @@ ghost use Rattle.text.specs.Over.{over};
 ghost use Rattle.text.specs.Adds.{Adds};
 
 // The first `count` bytes are a number's.
-#[derive(Drop)]
+#[derive(Clone, Copy)]
 pub struct Written {
     pub bytes: [u8; 20],
     pub count: usize,
