@@ -1,5 +1,7 @@
 // The objectives' table as code: numbers a train, most trains a station, list order kept or not, the rule of a good train, its cost, and how costs join.
 // Figures are a train's numbers in its list. Every public function is a column of the rules' table.
+#![tactic(auto)]
+
 ghost use Rattle.std.specs.Prelude.{◌≡◌, ◌<◌, min, pos, ◌+ℤ◌};
 ghost use Rattle.std.specs.Int.Signed.{le_z};
 ghost use Rattle.rules.specs.Lists.{every, count_from};
@@ -9,6 +11,7 @@ ghost use Rattle.costs.specs.Steps.{good_step};
 ghost use Rattle.costs.specs.Held.{held};
 
 // Whether trains of one station leave in list order, as those with rows do.
+#[tactic(auto, using(crate::proofs::Table::listed_by))]
 pub fn listed(objective: u32) -> bool
     ensures { result ≡ (aim_of objective).listed }
 {
@@ -16,6 +19,7 @@ pub fn listed(objective: u32) -> bool
 }
 
 // The numbers a train.
+#[tactic(auto, using(crate::proofs::Table::numbers_listed))]
 pub fn numbers(objective: u32) -> usize
     ensures { result ≡ (aim_of objective).numbers }
 {
@@ -23,6 +27,7 @@ pub fn numbers(objective: u32) -> usize
 }
 
 // The most trains a station.
+#[tactic(auto, using(crate::proofs::Table::most_listed))]
 pub fn most(objective: u32) -> usize
     ensures { result ≡ (aim_of objective).most }
 {
@@ -30,6 +35,7 @@ pub fn most(objective: u32) -> usize
 }
 
 // The figure at a place, and 0 past the end.
+#[tactic(auto, unfolding(rules::specs::Figures::figure))]
 fn figure(x: &[i32], k: usize) -> i32
     ensures { result ≡ figure x.now k }
 {
@@ -37,6 +43,7 @@ fn figure(x: &[i32], k: usize) -> i32
 }
 
 // Whether a number is from the least to the most.
+#[tactic(auto, unfolding(rules::specs::Figures::within))]
 fn within(least: i32, most: i32, z: i32) -> bool
     ensures { result ≡ within least most z }
 {
@@ -74,6 +81,7 @@ fn good_step(x: &[i32], used: usize, k: usize) -> bool
 }
 
 // Whether the seven steps after the first keep the rule.
+#[tactic(auto, using(crate::proofs::Stretches::every_next))]
 fn good_steps(x: &[i32], used: usize) -> bool
     ensures { result ≡ every (good_step x.now used) (count_from 1 7) }
 {
@@ -117,6 +125,7 @@ fn started(start: i32, arrival: u32) -> bool
 }
 
 // The cost of the last used step whose start is not after the arrival.
+#[tactic(auto, using(crate::proofs::Rows::row_cost_so_far, crate::proofs::Rows::so_far_before))]
 fn row_cost(x: &[i32], arrival: u32) -> i32
     ensures { result ≡ row_cost x.now arrival }
 {
@@ -144,6 +153,7 @@ pub fn cost(objective: u32, figures: &[i32], arrival: u32) -> i64
 }
 
 // The larger of two costs.
+#[tactic(auto, unfolding(rules::specs::Objectives::larger))]
 fn larger(a: i64, b: i64) -> i64
     ensures { result ≡ larger a b }
 {
@@ -167,6 +177,7 @@ fn sum(a: i64, b: i64) -> i64
 }
 
 // Two costs as one: their sum, held to 64 bits, or the larger.
+#[tactic(auto, using(crate::proofs::Table::joined_by, crate::proofs::Held::held_fits))]
 pub fn joined(objective: u32, a: i64, b: i64) -> i64
     ensures { result ≡ held ((aim_of objective).joined a b) }
 {
