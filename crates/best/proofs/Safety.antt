@@ -15,6 +15,8 @@ use Rattle.best.specs.Instance.{line}
 
 same→ : (s s' : Station) → T (same_station s s') → s ≡ s'
 same→ one one t = refl
+same→ one two t = absurd t
+same→ two one t = absurd t
 same→ two two t = refl
 
 pub →same : (s s' : Station) → s ≡ s' → T (same_station s s')
