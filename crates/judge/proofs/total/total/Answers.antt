@@ -1,6 +1,6 @@
 -- The first train's cost begins the sum, and each train after it is joined to what is held.
 use borrow.Author.Rules.{sfits_of}
-use mathlib.Core.Path.{◌≡◌, sym, ◌∙◌, ap}
+use mathlib.Core.Path.{sym, ◌∙◌, ap}
 use Prim.Native.Nat.{◌<◌}
 use native.Mathlib.Omega.{arith}
 use mir.Facts.{to_z-of_z}
