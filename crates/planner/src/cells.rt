@@ -62,6 +62,7 @@ fn pair(
 }
 
 // A cell of `counts`: the best from second 0 after station 1's train and after station 2's, and how it rises with the second.
+#[tactic(auto, unfolding(crate::specs::Cells::cell_clock))]
 pub fn count_cell(
     terms: Terms,
     x: &[i32],
@@ -96,7 +97,7 @@ pub fn count_cell(
 }
 
 // The departure of the last of so many trains, with so many changes of station among them.
-#[tactic(auto, using(crate::proofs::Near::few_short, rules::proofs::Line::gap_most), unfolding(crate::specs::Cells::seconds))]
+#[tactic(auto, unfolding(crate::specs::Cells::seconds))]
 fn seconds(timing: Timing, changes: usize, gone: usize) -> u32
     requires { T (good_timing timing) × (changes < gone) × (gone ≤ 24) }
     ensures { result ≡ seconds timing changes gone }
@@ -106,6 +107,7 @@ fn seconds(timing: Timing, changes: usize, gone: usize) -> u32
 }
 
 // A cell of `changes`: for each number of changes among the trains gone, the best after station 1's train and after station 2's.
+#[tactic(auto, unfolding(crate::specs::Cells::cell_clock, crate::specs::Cells::gone_of))]
 pub fn change_cell(
     terms: Terms,
     x: &[i32],

@@ -16,6 +16,7 @@ fn side(one: bool) -> usize
 }
 
 // The best of the rest from a clock, as the tables have it.
+#[tactic(auto, unfolding(crate::specs::Rests::entry, crate::specs::Rests::side, crate::specs::Rests::looked_up))]
 fn rest(
     objective: u32,
     clock: Clock,
