@@ -1,6 +1,6 @@
 -- The entry is in the tables, and the sum, being the best of the rest, fits.
 use mir.Facts.{to_z-of_z, to_z_pos}
-use Rattle.std.proofs.Common.{◌≡◌, sym, ◌∙◌, false, [], ℕ, ℤ, pos, ◌+ℤ◌, ◌*ℤ◌, SFits, arith, to_z, of_z, get_or}
+use Rattle.std.proofs.Common.{◌≡◌, sym, ◌∙◌, false, ℕ, pos, ◌+ℤ◌, ◌*ℤ◌, SFits, arith, to_z}
 use Rattle.std.specs.Int.{w64}
 use Rattle.rules.specs.Objectives.{aim_of}
 use Rattle.costs.proofs.Bounds.{mag_product}
