@@ -1,5 +1,5 @@
 -- Each turn stores the pair of its changes.
-use Rattle.std.proofs.Common.{◌≡◌, refl, ◌∙◌, ◌-◌, ◌+◌, arith}
+use Rattle.std.proofs.Common.{◌≡◌, refl, ◌∙◌, arith}
 use Rattle.planner.specs.Cells.{cell_clock, gone_of}
 use Rattle.planner.proofs.CellPairs.{read_first, read_second, no_pairs, as_long, next_pair}
 use Rattle.planner.proofs.cells.change_cell.Goals as goal

@@ -1,5 +1,5 @@
 -- The loop's invariant: the cell begins with the pairs of the changes so far.
-use Rattle.std.proofs.Common.{◌≡◌, ◌≤◌, length}
+use Rattle.std.proofs.Common.{◌≡◌, length}
 use Rattle.planner.specs.Rests.{best_by}
 use Rattle.planner.specs.Cells.{after, cell_clock, seconds, Pairs}
 use Rattle.planner.proofs.cells.change_cell.Given as goal

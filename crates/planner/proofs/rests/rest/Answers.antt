@@ -18,7 +18,6 @@ module _ {objective : ℕ} {c : Clock} {counts changes : Table} (H : Held object
   unfolding looked_up
   sum_fits = let small = rw e at H.small in record { sfits = omega (arith, small) }
 
-
 pub overflow_mul-result : goal.overflow_mul-result
 unfolding entry
 overflow_mul-result c =
