@@ -8,4 +8,5 @@ pub overflow_add-end : goal.overflow_add-end
 overflow_add-end c = omega (arith, twos_most _ _ _ _ _ c.requires.planning)
 
 pub returns : goal.returns
-returns c = ?
+returns c =
+    row_filled _ _ _ _ _ c.requires.planning c.args.ones c.loop-twos.twos (omega arith) c.loop-twos.invariant

@@ -4,6 +4,7 @@ use mir.Facts.{to_z-of_z}
 use Rattle.planner.proofs.Entries.{gone_few}
 use Rattle.planner.proofs.Timetable.{noted_none, noted_all, step_fewer, one_placed, two_placed, one_noted, two_noted}
 use Rattle.planner.proofs.walk.walk.Goals as goal
+use Rattle.planner.proofs.walk.walk.Goals.{Then-clock, Else-clock}
 
 pub loop-clock-init : goal.loop-clock-init
 loop-clock-init c =
@@ -13,11 +14,11 @@ pub overflow_add-clock : goal.overflow_add-clock
 overflow_add-clock c = omega (arith, gone_few _ c.requires.planning.accepted _ c.loop-clock.invariant.running)
 
 -- the train that has left has its place in its station's array
-one_place : (c : goal.Then-clock) → (c.step-clock.result.ones < c.args.terms.ones) × (c.args.terms.ones ≤ 48)
+one_place : (c : Then-clock) → (c.step-clock.result.ones < c.args.terms.ones) × (c.args.terms.ones ≤ 48)
 one_place c =
     one_placed _ _ _ _ _ c.requires.planning _ c.loop-clock.invariant c.loop-clock-test.true c.step-clock.ensures c.if-clock.true
 
-two_place : (c : goal.Else-clock) → (c.step-clock.result.twos < c.args.terms.twos) × (c.args.terms.twos ≤ 48)
+two_place : (c : Else-clock) → (c.step-clock.result.twos < c.args.terms.twos) × (c.args.terms.twos ≤ 48)
 two_place c =
     two_placed _ _ _ _ _ c.requires.planning _ c.loop-clock.invariant c.loop-clock-test.true c.step-clock.ensures c.if-clock.false
 
@@ -31,7 +32,7 @@ pub offset_bounds-times1-k : goal.offset_bounds-times1-k
 offset_bounds-times1-k c = record { fits = omega (arith, one_place c.before.before) }
 
 pub bounds-times1-k : goal.bounds-times1-k
-bounds-times1-k c = omega (arith, one_place c.before.before)
+bounds-times1-k c = omega (arith, one_place c.before.before.before)
 
 pub loop-clock-smaller-then-clock : goal.loop-clock-smaller-then-clock
 loop-clock-smaller-then-clock c =
@@ -51,7 +52,7 @@ pub offset_bounds-times2-k : goal.offset_bounds-times2-k
 offset_bounds-times2-k c = record { fits = omega (arith, two_place c.before.before) }
 
 pub bounds-times2-k : goal.bounds-times2-k
-bounds-times2-k c = omega (arith, two_place c.before.before)
+bounds-times2-k c = omega (arith, two_place c.before.before.before)
 
 pub loop-clock-smaller : goal.loop-clock-smaller
 loop-clock-smaller c =
