@@ -107,7 +107,6 @@ fn seconds(timing: Timing, changes: usize, gone: usize) -> u32
 }
 
 // A cell of `changes`: for each number of changes among the trains gone, the best after station 1's train and after station 2's.
-#[tactic(auto, unfolding(crate::specs::Cells::cell_clock, crate::specs::Cells::gone_of))]
 pub fn change_cell(
     terms: Terms,
     x: &[i32],

@@ -4,10 +4,6 @@ use Rattle.planner.specs.Cells.{cell_clock}
 use Rattle.planner.proofs.CellPairs.{read_first, read_second, one_pair}
 use Rattle.planner.proofs.cells.count_cell.Goals as goal
 
-pub pair-values-requires : goal.pair-values-requires
-unfolding cell_clock
-pair-values-requires c = c.requires.chooses
-
 pub returns-clause-pairs : goal.returns-clause-pairs
 unfolding cell_clock
 returns-clause-pairs c =

@@ -1,6 +1,7 @@
 -- The entry is in the tables, and the sum, being the best of the rest, fits.
 use mir.Facts.{to_z-of_z, to_z_pos}
 use Rattle.std.proofs.Common.{◌≡◌, sym, ◌∙◌, false, ℕ, pos, ◌+ℤ◌, ◌*ℤ◌, SFits, arith, to_z}
+use Rattle.std.proofs.lemmas.Grind.{common_steps}
 use Rattle.std.specs.Int.{w64}
 use Rattle.rules.specs.Objectives.{aim_of}
 use Rattle.costs.proofs.Bounds.{mag_product}
@@ -21,18 +22,16 @@ module _ {objective : ℕ} {c : Clock} {counts changes : Table} (H : Held object
 pub overflow_mul-result : goal.overflow_mul-result
 unfolding entry
 overflow_mul-result c =
-    let rate : SFits w64 (entry c.args.counts.now c.args.clock.ones c.args.clock.twos 2) = record { sfits = omega arith } in
+    let alone : (aim_of c.args.objective).listed ≡ false = sym c.listed.ensures ∙ c.if-listed.false in
     let departed : to_z w64 c.args.clock.departure ≡ pos c.args.clock.departure = to_z_pos w64 (omega (arith, c.requires.soon)) in
-    rw (to_z-of_z rate, departed) (added_fits c.requires (sym c.listed.ensures ∙ c.if-listed.false))
+    grind (arith, common_steps, departed, added_fits c.requires alone)
 
 pub overflow_add-result : goal.overflow_add-result
-unfolding entry
+unfolding entry side
 overflow_add-result c =
-    let base : SFits w64 (entry c.args.counts.now c.args.clock.ones c.args.clock.twos c.side-at.result) = record { sfits = omega arith } in
-    let rate : SFits w64 (entry c.args.counts.now c.args.clock.ones c.args.clock.twos 2) = record { sfits = omega arith } in
-    let departed : to_z w64 c.args.clock.departure ≡ pos c.args.clock.departure = to_z_pos w64 (omega (arith, c.requires.soon)) in
     let alone : (aim_of c.args.objective).listed ≡ false = sym c.listed.ensures ∙ c.if-listed.false in
-    rw (to_z-of_z base, to_z-of_z rate, departed, to_z-of_z (added_fits c.requires alone), c.side-at.ensures) (sum_fits c.requires alone)
+    let departed : to_z w64 c.args.clock.departure ≡ pos c.args.clock.departure = to_z_pos w64 (omega (arith, c.requires.soon)) in
+    grind (arith, common_steps, departed, added_fits c.requires alone, sum_fits c.requires alone)
 
 pub returns : goal.returns
 unfolding entry looked_up
