@@ -53,8 +53,8 @@ fn tell(answer: Answer, value: &mut i64, first: &mut u32, second: &mut u32) -> u
 
 // The answer to a text, written over the start of `out`, as much as it holds; gives the whole answer's length.
 pub fn pulpmitten_answer_text(text: &[u8], out: &mut [u8]) -> usize
-    ensures value { result ≡ length (answer text.now) }
-    ensures out_after { out.new ≡ over (take (length out.old) (answer text.now)) out.old }
+    ensures count { result ≡ length (answer text.now) }
+    ensures written { out.new ≡ over (take (length out.old) (answer text.now)) out.old }
 {
     let printed = section_file::answer_text(text);
     let bytes = printed.bytes;
@@ -76,7 +76,7 @@ pub fn pulpmitten_plan(
     second: &mut u32,
 ) -> u32
     ensures tells { Tells result value.new first.new second.new (planner_answers (called objective running headway one.now two.now) (length departures.old)) }
-    ensures departures_after { departures.new ≡ planner_leaves (called objective running headway one.now two.now) departures.old }
+    ensures leaves { departures.new ≡ planner_leaves (called objective running headway one.now two.now) departures.old }
 {
     let timing = Timing { running, headway };
     let answer = planner::plan(objective, timing, one, two, departures);

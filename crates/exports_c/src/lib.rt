@@ -11,8 +11,8 @@ ghost use Rattle.exports.specs.Told.{called, Tells};
 // The answer to a text, written over the start of `out`, as much as it holds; gives the whole answer's length.
 #[unsafe(no_mangle)]
 pub extern "C" fn pulpmitten_answer_text(text: &[u8], out: &mut [u8]) -> usize
-    ensures value { result ≡ length (answer text.now) }
-    ensures out_after { out.new ≡ over (take (length out.old) (answer text.now)) out.old }
+    ensures count { result ≡ length (answer text.now) }
+    ensures written { out.new ≡ over (take (length out.old) (answer text.now)) out.old }
 {
     exports::pulpmitten_answer_text(text, out)
 }
@@ -31,7 +31,7 @@ pub extern "C" fn pulpmitten_plan(
     second: &mut u32,
 ) -> u32
     ensures tells { Tells result value.new first.new second.new (planner_answers (called objective running headway one.now two.now) (length departures.old)) }
-    ensures departures_after { departures.new ≡ planner_leaves (called objective running headway one.now two.now) departures.old }
+    ensures leaves { departures.new ≡ planner_leaves (called objective running headway one.now two.now) departures.old }
 {
     exports::pulpmitten_plan(
         objective, running, headway, one, two, departures, value, first, second,
