@@ -13,6 +13,7 @@ ghost use Rattle.refusals.specs.Trains.{trains_in, first_bad};
 use rules::{Answer, Outcome, Timing};
 
 // The refusal with this number and these places.
+#[tactic(auto, unfolding(rules::specs::Answers::says))]
 pub fn refused(number: u32, first: u32, second: u32) -> Answer
     ensures { says result ≡ refused number first second }
 {
@@ -26,6 +27,7 @@ pub fn refused(number: u32, first: u32, second: u32) -> Answer
 }
 
 // Nothing is refused.
+#[tactic(auto, unfolding(rules::specs::Answers::says))]
 fn passed() -> Answer
     ensures { says result ≡ value_is (pos 0) }
 {
@@ -35,6 +37,7 @@ fn passed() -> Answer
 }
 
 // The objective is 1 to 4.
+#[tactic(auto, unfolding(rules::specs::Refusals::known))]
 fn known_objective(objective: u32) -> bool
     ensures { result ≡ known objective }
 {
@@ -42,6 +45,7 @@ fn known_objective(objective: u32) -> bool
 }
 
 // The running time is 2 to 10,000, and the headway at least 1 and below it.
+#[tactic(auto, unfolding(rules::specs::Line::good_running, rules::specs::Line::good_headway, rules::specs::Line::good_timing))]
 fn good_timing(t: Timing) -> bool
     ensures { result ≡ good_timing t }
 {
@@ -55,6 +59,7 @@ fn good_timing(t: Timing) -> bool
 }
 
 // How many trains a list has.
+#[tactic(auto, using(crate::proofs::Table::numbers_positive), unfolding(crate::specs::Trains::trains_in))]
 fn trains_in(objective: u32, xs: &[i32]) -> usize
     ensures { result ≡ trains_in objective xs.now }
 {
@@ -62,6 +67,7 @@ fn trains_in(objective: u32, xs: &[i32]) -> usize
 }
 
 // A list's last train lacks numbers.
+#[tactic(auto, using(crate::proofs::Table::numbers_positive))]
 fn ragged(objective: u32, xs: &[i32]) -> bool
     ensures { result ≡ not (eqb (length xs.now % (aim_of objective).numbers) 0) }
 {
@@ -83,6 +89,7 @@ fn crowded(objective: u32, xs: &[i32]) -> bool
 }
 
 // Refusals 1 to 5, which the call's numbers and its lists' lengths settle.
+#[tactic(auto, unfolding(rules::specs::Refusals::call_refusals, rules::specs::Refusals::refuse, rules::specs::Refusals::ragged, rules::specs::Refusals::crowded, rules::specs::Trains::aim, rules::specs::Trains::count_at, crate::specs::Trains::trains_in))]
 fn call_refusal(objective: u32, timing: Timing, one: &[i32], two: &[i32]) -> Answer
     ensures { says result ≡ verdict (call_refusals (asked objective timing one.now two.now)) (pos 0) }
 {
