@@ -20,6 +20,7 @@ pub fn first_late(departures: &[u32]) -> usize
 }
 
 // Whether two trains, the first with the smaller number, break R1, R2 or, where list order is kept, R3.
+#[tactic(auto, unfolding(crate::specs::Conflicts::breaks))]
 fn clash(
     listed: bool,
     timing: Timing,

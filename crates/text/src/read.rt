@@ -21,6 +21,7 @@ pub enum Scan {
 }
 
 // Whether a byte is a space or a line end.
+#[tactic(auto, unfolding(crate::specs::Words::parts))]
 fn parts(byte: u8) -> bool
     ensures { result ≡ parts byte }
 {
@@ -42,6 +43,7 @@ fn word_end(text: &[u8], start: usize) -> usize
 }
 
 // Whether a byte is a decimal digit.
+#[tactic(auto, unfolding(crate::specs::Numbers::digit))]
 fn digit(byte: u8) -> bool
     ensures { result ≡ digit byte }
 {
