@@ -1,4 +1,4 @@
-/* Pulpmitten for C and C++: the functions of target/staticlib/libexports.a, which `rt staticlib exports` makes.
+/* Pulpmitten for C and C++: the functions of target/staticlib/libexports.a, a copy of crates/exports_c's library.
  * A list is a pointer and a length. No pointer may be NULL, also where the length is 0, and nothing that is
  * written may overlap anything else. A call takes some 150 KiB of stack and no heap. */
 #ifndef PULPMITTEN_H

@@ -1,20 +1,23 @@
 // Texts put together from pieces, and a text's answer below the case's name.
 
+use std::io;
+
 // Writes a case's name and the answer to its text.
-pub fn show(name: &[u8], text: &[u8]) {
-    io::write_all(1, name);
-    io::write_all(1, b":\n");
+pub fn show(rt: &impl Print, name: &[u8], text: &[u8]) -> io::Result<()> {
+    rt.write_all(name)?;
+    rt.write_all(b":\n")?;
     let printed = section_file::answer_text(text);
     let bytes = printed.bytes;
     let count = printed.count;
-    io::write_all(1, &bytes[..count]);
+    rt.write_all(&bytes[..count])
 }
 
 // Shows the first bytes of a text.
-pub fn show_first(name: &[u8], text: &[u8], count: usize) {
+pub fn show_first(rt: &impl Print, name: &[u8], text: &[u8], count: usize) -> io::Result<()> {
     if count <= text.len() {
-        show(name, &text[0..count]);
+        return show(rt, name, &text[0..count]);
     }
+    Ok(())
 }
 
 // Puts a piece into a text from a place on, as much as there is room for, and gives the place after it.

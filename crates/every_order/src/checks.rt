@@ -53,8 +53,8 @@ fn parted(
     end: usize,
     state: &mut u64,
 ) -> u64
-    requires trains_nonzero { (0 < section.trains) × (section.trains ≤ 6) }
-    requires split_le_end { (split ≤ end) × (end ≤ length list.now) }
+    requires few { (0 < section.trains) × (section.trains ≤ 6) }
+    requires parted { (split ≤ end) × (end ≤ length list.now) }
 {
     differences(section, trains, &list[0..split], &list[split..end], state)
 }

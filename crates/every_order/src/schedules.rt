@@ -18,10 +18,7 @@ fn earliest(section: Section, order: &[usize; 6], departures: &[u32; 6], place: 
     let mut earliest = 0;
     for before in 0..place {
         let other = order[before];
-        let free = std::num::wrapping_add_u32(
-            departure(departures, other),
-            safety::gap(section, other, train),
-        );
+        let free = departure(departures, other).wrapping_add(safety::gap(section, other, train));
         if earliest < free {
             earliest = free;
         }
@@ -36,7 +33,7 @@ pub fn scheduled(section: Section, order: &[usize; 6], waits: &[u32; 6]) -> [u32
         let train = order[place];
         if train < 6 {
             let free = earliest(section, order, &departures, place);
-            departures[train] = std::num::wrapping_add_u32(free, waits[place]);
+            departures[train] = free.wrapping_add(waits[place]);
         }
     }
     departures

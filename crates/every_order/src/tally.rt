@@ -2,7 +2,7 @@
 
 // Two counts as one.
 pub fn together(differences: u64, more: u64) -> u64 {
-    std::num::wrapping_add_u64(differences, more)
+    differences.wrapping_add(more)
 }
 
 // A count with one more, where something differs.

@@ -69,7 +69,7 @@ fn joined(objective: u32, a: i64, b: i64) -> i64 {
 
 // What a train costs that leaves at a second. No arrival wraps, as no departure does.
 fn cost_of(section: Section, figures: &[i32; 17], departure: u32) -> i64 {
-    let arrival = std::num::wrapping_add_u32(departure, section.timing.running);
+    let arrival = departure.wrapping_add(section.timing.running);
     cost(section.objective, figures, arrival)
 }
 

@@ -33,7 +33,7 @@ fn damaged(departures: [u32; 6], trains: usize, state: &mut u64) -> [u32; 6]
     let train = random::below(state, trains as u32) as usize;
     let seconds = 1 + random::below(state, 2);
     let departure = departures[train];
-    damaged[train] = std::num::wrapping_add_u32(departure, seconds);
+    damaged[train] = departure.wrapping_add(seconds);
     if random::below(state, 2) == 0 {
         if seconds <= departure {
             damaged[train] = departure - seconds;

@@ -1,5 +1,6 @@
-// The functions that a program in C or Rust links: a section file's text to its answer's, the planner and the judge.
-// Numbers pass as themselves, a slice as a pointer and then a length.
+// What a program in C or Rust links, which `exports_c` gives its C names: a section file's text to its answer's, the planner and the judge.
+#![tactic(auto)]
+
 ghost use Rattle.std.specs.Prelude.{◌≡◌, min, length, take};
 ghost use Rattle.rules.specs.Answers.{says, planner_answers, planner_leaves, judge_answers};
 ghost use Rattle.section_file.specs.Answer.{answer};
@@ -51,10 +52,9 @@ fn tell(answer: Answer, value: &mut i64, first: &mut u32, second: &mut u32) -> u
 }
 
 // The answer to a text, written over the start of `out`, as much as it holds; gives the whole answer's length.
-#[unsafe(no_mangle)]
-pub extern "C" fn pulpmitten_answer_text(text: &[u8], out: &mut [u8]) -> usize
-    ensures value { result ≡ length (answer text.now) }
-    ensures out_after { out.new ≡ over (take (length out.old) (answer text.now)) out.old }
+pub fn pulpmitten_answer_text(text: &[u8], out: &mut [u8]) -> usize
+    ensures count { result ≡ length (answer text.now) }
+    ensures written { out.new ≡ over (take (length out.old) (answer text.now)) out.old }
 {
     let printed = section_file::answer_text(text);
     let bytes = printed.bytes;
@@ -64,8 +64,7 @@ pub extern "C" fn pulpmitten_answer_text(text: &[u8], out: &mut [u8]) -> usize
 }
 
 // Plans a section as `planner::plan` does.
-#[unsafe(no_mangle)]
-pub extern "C" fn pulpmitten_plan(
+pub fn pulpmitten_plan(
     objective: u32,
     running: u32,
     headway: u32,
@@ -77,7 +76,7 @@ pub extern "C" fn pulpmitten_plan(
     second: &mut u32,
 ) -> u32
     ensures tells { Tells result value.new first.new second.new (planner_answers (called objective running headway one.now two.now) (length departures.old)) }
-    ensures departures_after { departures.new ≡ planner_leaves (called objective running headway one.now two.now) departures.old }
+    ensures leaves { departures.new ≡ planner_leaves (called objective running headway one.now two.now) departures.old }
 {
     let timing = Timing { running, headway };
     let answer = planner::plan(objective, timing, one, two, departures);
@@ -85,8 +84,7 @@ pub extern "C" fn pulpmitten_plan(
 }
 
 // Judges recorded departures as `judge::judge` does.
-#[unsafe(no_mangle)]
-pub extern "C" fn pulpmitten_judge(
+pub fn pulpmitten_judge(
     objective: u32,
     running: u32,
     headway: u32,

@@ -10,6 +10,7 @@ use crate::rests;
 use rules::Timing;
 
 // How much more a train costs for each second that it is later, under objectives 1 and 2.
+#[tactic(auto, unfolding(crate::specs::Cells::slope))]
 fn slope(objective: u32, figures: &[i32]) -> i64
     requires { Slopes objective figures.now }
     ensures { result ≡ slope (aim_of objective) figures.now }
@@ -18,6 +19,7 @@ fn slope(objective: u32, figures: &[i32]) -> i64
 }
 
 // How much more the rest costs for each second that all of it is later, under objectives 1 and 2.
+#[tactic(auto, using(costs::proofs::Held::held_fits), unfolding(crate::specs::Cells::rate, crate::specs::Rests::entry))]
 fn rate(
     objective: u32,
     x: &[i32],
@@ -39,6 +41,7 @@ fn rate(
 }
 
 // The best of the rest from a clock, if its last train was station 1's, and if it was station 2's.
+#[tactic(auto, unfolding(crate::specs::Cells::after))]
 fn pair(
     terms: Terms,
     clock: Clock,
@@ -59,6 +62,7 @@ fn pair(
 }
 
 // A cell of `counts`: the best from second 0 after station 1's train and after station 2's, and how it rises with the second.
+#[tactic(auto, unfolding(crate::specs::Cells::cell_clock))]
 pub fn count_cell(
     terms: Terms,
     x: &[i32],
@@ -93,6 +97,7 @@ pub fn count_cell(
 }
 
 // The departure of the last of so many trains, with so many changes of station among them.
+#[tactic(auto, unfolding(crate::specs::Cells::seconds))]
 fn seconds(timing: Timing, changes: usize, gone: usize) -> u32
     requires { T (good_timing timing) × (changes < gone) × (gone ≤ 24) }
     ensures { result ≡ seconds timing changes gone }

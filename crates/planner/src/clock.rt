@@ -41,6 +41,7 @@ fn fewer(count: usize, leaves: bool) -> usize
 
 impl Clock {
     // The second at which a station's next train can leave.
+    #[tactic(auto, unfolding(crate::specs::Clock::departs))]
     fn departs(self, timing: Timing, one: bool) -> u32
         requires { Near timing self }
         ensures { result ≡ departs timing self one }
@@ -52,6 +53,7 @@ impl Clock {
     }
 
     // The changes of station once a station's next train has left.
+    #[tactic(auto, unfolding(crate::specs::Clock::changed))]
     fn changed(self, one: bool) -> usize
         requires { self.changes ≤ 96 }
         ensures { result ≡ changed self one }

@@ -8,6 +8,7 @@ ghost use Rattle.planner.specs.Rests.{side, looked_up, Held, day, through, Sends
 use crate::clock::{Clock, Terms};
 
 // Where a cell holds the best after station 1's train, and after station 2's.
+#[tactic(auto, unfolding(crate::specs::Rests::side))]
 fn side(one: bool) -> usize
     ensures { result ≡ side one }
 {
@@ -15,6 +16,7 @@ fn side(one: bool) -> usize
 }
 
 // The best of the rest from a clock, as the tables have it.
+#[tactic(auto, unfolding(crate::specs::Rests::entry, crate::specs::Rests::side, crate::specs::Rests::looked_up))]
 fn rest(
     objective: u32,
     clock: Clock,
@@ -35,6 +37,7 @@ fn rest(
 }
 
 // What the day comes to at best from a clock: the value so far with the best of the rest.
+#[tactic(auto, using(costs::proofs::Held::held_fits), unfolding(crate::specs::Rests::day))]
 pub fn day(
     objective: u32,
     clock: Clock,
@@ -58,6 +61,7 @@ pub fn day(
 }
 
 // What the rest comes to at best if a station's next train leaves first.
+#[tactic(auto, unfolding(crate::specs::Rests::through))]
 fn through(
     terms: Terms,
     clock: Clock,
@@ -74,6 +78,7 @@ fn through(
 }
 
 // The best of the rest from a clock; x and y are the figures of the stations' next trains.
+#[tactic(auto, unfolding(crate::specs::Rests::best_by, crate::specs::Rests::lesser))]
 pub fn best(
     terms: Terms,
     clock: Clock,

@@ -3,6 +3,7 @@ ghost use Rattle.std.specs.Prelude.{◌≡◌};
 ghost use Rattle.planner.specs.Trains.{next_figures, Queued};
 
 // The figures of a station's next train; none where no train is left. The station has `count` trains, at these places of its list.
+#[tactic(auto, unfolding(crate::specs::Trains::next_figures))]
 pub fn next_train<'a>(
     objective: u32,
     list: &'a [i32],

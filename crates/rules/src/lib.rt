@@ -1,5 +1,6 @@
 // The types of the interface: what a caller hands over, and what it gets back.
 // What they mean, and every rule of the line, stands in specs/.
+#![tactic(auto)]
 
 // Seconds between departures: a train's running time from one station to the other, and the headway behind a train of the same station.
 #[derive(Clone, Copy)]

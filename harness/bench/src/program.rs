@@ -6,13 +6,13 @@ use std::process::{Child, Command, Stdio};
 use std::thread;
 use std::time::Duration;
 
-const PROGRAM: &str = concat!(env!("CARGO_MANIFEST_DIR"), "/../../target/bin/section");
+const PROGRAM: &str = concat!(env!("CARGO_MANIFEST_DIR"), "/../../crates/section/out/section");
 
 /// The program's answer to a text.
 pub fn answer(text: &[u8]) -> Vec<u8> {
     let started = start(&mut Command::new(PROGRAM), text);
     let answer = started.and_then(answer_of);
-    answer.expect("first build it: `rt check section`")
+    answer.expect("first build it: `rt run` in crates/section")
 }
 
 /// Its answer under a stack limit in KiB, without an environment, which would take from the stack.
