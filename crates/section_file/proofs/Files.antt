@@ -1,22 +1,16 @@
--- From a text to its file: what a scan and a layout say of it, and which answer a file has.
+-- From a text to its file: what a scan and a layout say of it.
 use mathlib.Core.Bool.{Bool, true, false, ◌&&◌, ◌||◌, cond}
-use mathlib.Core.List.{List, [], ◌∷◌, map, map-append}
-use mathlib.Core.Path.{◌≡◌, refl, sym, ◌∙◌, ap, subst}
-use Prim.Native.Nat.{ℕ, zero, suc, ◌+◌, ◌≤◌, ◌<◌, min}
-use native.Mathlib.Numerals.{add-one}
+use mathlib.Core.List.{List, [], ◌∷◌}
+use mathlib.Core.Path.{◌≡◌, refl, sym, ◌∙◌, ap}
+use Prim.Native.Nat.{ℕ, suc, ◌+◌, ◌≤◌, ◌<◌}
 use native.Mathlib.Omega.{arith}
 use borrow.Author.Tests.{le-leb, lt-leb, leb-false}
 use lib.Dec.{T, leb, leb→le}
 use lib.IntN.{ℤ, pos, negsuc, nat_abs}
-use lib.ListN.{length, get_or, take, drop, set, length-drop, length-take, length-map}
-use lib.Seq.{take-suc, take-suc-set}
-use lib.Signed.{le_z, le_z_yes, non_neg, yes_non_neg}
+use lib.ListN.{length, take, drop, length-drop, length-take}
+use lib.Signed.{le_z}
 use Rattle.rules.specs.Lists.{every}
 use Rattle.rules.specs.Figures.{within}
-use Rattle.rules.specs.declared.Timing.{Timing}
-use Rattle.rules.specs.Trains.{Section, asked, count}
-use Rattle.rules.specs.Orders.{plan}
-use Rattle.rules.specs.Answers.{planner_answers, judge_answers}
 use Rattle.rules.proofs.Tests.{both}
 use Rattle.theory.proofs.Choices.{cond_ind}
 use Rattle.text.specs.Numbers.{Numbers, all, unreadable as no_numbers, numbers}
@@ -24,38 +18,9 @@ use Rattle.text.specs.declared.read.Scan.{Scan}
 use Rattle.text.specs.declared.read.Scan.TheVariants.{All, Bad}
 use Rattle.text.specs.Read.{few, shown, counted, Reads}
 use Rattle.section_file.specs.declared.layout.Span.{Span}
-use Rattle.section_file.specs.declared.layout.Layout.{Layout}
-use Rattle.section_file.specs.declared.layout.Found.{Found}
-use Rattle.section_file.specs.declared.layout.Found.TheVariants.{File, Unreadable}
-use Rattle.section_file.specs.Layout.{Part, File as FileOf, part, no_part, section_of, file, unreadable, ended, then_recorded, then_two, then_one, laid_out}
-use Rattle.section_file.specs.Lines.{planned, judged, printed}
+use Rattle.section_file.specs.Layout.{Part, File as FileOf, part, no_part, section_of, unreadable, ended, then_recorded, then_two, then_one, laid_out}
 use Rattle.section_file.specs.Answer.{file_of, read, answered, answer}
-use Rattle.section_file.specs.Found.{spanned, file_shown, Laid, Listed, Placed, Places, placed, unplaced}
-use Rattle.section_file.specs.Page.{Put}
-
--- no recorded departure is below 0
-pub unsigned_each : (zs : List ℤ) → T (every (le_z (pos 0)) zs) → (k : ℕ) → k < length zs → T (non_neg (get_or zs k (pos 0)))
-unsigned_each [] t k h = absurd (omega arith)
-unsigned_each (z ∷ zs) t zero h = yes_non_neg {z = z} (le_z_yes (simp both at t).0)
-unsigned_each (z ∷ zs) t (suc k) h = unsigned_each zs (simp both at t).1 k (omega arith)
-
--- one departure more is copied
-pub copied : (zs : List ℤ) (ds : List ℕ) (k : ℕ) → k < length zs → k < length ds → take k ds ≡ map nat_abs (take k zs)
-    → take (k + 1) (set ds k (nat_abs (get_or zs k (pos 0)))) ≡ map nat_abs (take (k + 1) zs)
-copied zs ds k h l e = rw (add-one k, take-suc-set, take-suc zs k (pos 0), map-append, e)
-
--- a file's answer, by whether departures are recorded
-pub planned_answer : (S : Section) (ds : List ℕ) → length ds ≡ 0 → answered (file S ds) ≡ printed planned S (planner_answers S (count S)) (plan S)
-planned_answer S [] e = refl
-planned_answer S (d ∷ ds) e = absurd (omega arith)
-
-pub judged_answer : (S : Section) (ds : List ℕ) → 0 < length ds → answered (file S ds) ≡ printed judged S (judge_answers S ds) ds
-judged_answer S [] h = absurd (omega arith)
-judged_answer S (d ∷ ds) h = refl
-
-pub placed_of : {values : List ℤ} {r : Found} {l : Layout} → Places values r → r ≡ File l → Placed values l
-placed_of {values = values} {l = l'} (placed {l = l} p) e = let same : l ≡ l' = cc in subst (Placed values) same p
-placed_of unplaced e = let never : ◌≡◌ {A = ℕ} 0 1 = cc in absurd (omega arith)
+use Rattle.section_file.specs.Found.{spanned, Listed}
 
 -- more than 1,543 numbers are no file: each section takes at most its count and its numbers
 data Long (n : ℕ) : Part → Type 0 where
@@ -127,37 +92,6 @@ short_enough text h e = rw (le-leb (length text) 16384 h, e)
 pub spanned_few : (values : List ℤ) (s : Span) → Listed (length values) s → length (spanned values s) ≤ 512
 unfolding spanned
 spanned_few values s l = rw length-take (omega (arith, l.few))
-
--- the answer that is put, with the lists as the code has them
-module _ (objective : ℕ) (t : Timing) (xs ys zs : List ℤ) {page page' : List ℕ} {r : ℕ} where
-  pub file_planned : {one two recorded : List ℤ} → one ≡ xs → two ≡ ys → recorded ≡ zs → length recorded ≡ 0
-      → Put page 0 (printed planned (asked objective t one two) (planner_answers (asked objective t one two) (count (asked objective t one two))) (plan (asked objective t one two))) page' r
-      → Put page 0 (answered (file (asked objective t xs ys) (map nat_abs zs))) page' r
-  file_planned a b c empty p =
-      rw (planned_answer (asked objective t xs ys) (map nat_abs zs) (length-map zs nat_abs ∙ ap length (sym c) ∙ empty)) (rw (a, b) at p)
-
-  pub file_judged : {one two recorded : List ℤ} → one ≡ xs → two ≡ ys → recorded ≡ zs
-      → Put page 0 (answered (file (asked objective t one two) (map nat_abs recorded))) page' r → Put page 0 (answered (file (asked objective t xs ys) (map nat_abs zs))) page' r
-  file_judged a b c p = rw (a, b, c) at p
-
-  pub recorded_judged : {departures : List ℕ} → departures ≡ map nat_abs zs → 0 < length zs
-      → Put page 0 (printed judged (asked objective t xs ys) (judge_answers (asked objective t xs ys) departures) departures) page' r
-      → Put page 0 (answered (file (asked objective t xs ys) (map nat_abs zs))) page' r
-  recorded_judged e some p = rw (judged_answer (asked objective t xs ys) (map nat_abs zs) (rw length-map some)) (rw e at p)
-
--- an answer that is put from the page's start stands within it
-pub put_within : {page page' bytes : List ℕ} {r : ℕ} → Put page 0 bytes page' r → r ≤ 8192
-put_within {page' = page'} {bytes = bytes} {r = r} p =
-    let taken : min r (length page') ≡ length bytes = sym (length-take r page') ∙ ap length p.added.shows in
-    omega (arith, p.added.ends, p.whole)
-
--- of the numbers of a text: the layout that is found, or none
-pub found_none : {values : List ℤ} {r : Found} → Laid values r → r ≡ Unreadable → answered unreadable ≡ answered (laid_out values)
-found_none {values = values} l e = ap answered (ap (file_shown values) (sym e) ∙ l.found)
-
-pub found_file : {values : List ℤ} {r : Found} {l : Layout} → Laid values r → r ≡ File l
-    → (answered (file_shown values (File l)) ≡ answered (laid_out values)) × Placed values l
-found_file {values = values} laid e = (ap answered (ap (file_shown values) (sym e) ∙ laid.found), placed_of laid.places e)
 
 -- of a text: the numbers that are read, or none
 pub read_none : {text : List ℕ} {r : Scan} {before values : List ℤ} → Reads text before r values → r ≡ Bad → length text ≤ 16384 → answered unreadable ≡ answer text

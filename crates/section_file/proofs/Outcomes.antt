@@ -4,9 +4,9 @@ use mathlib.Core.List.{List, [], ◌∷◌, ◌++◌, map}
 use mathlib.Core.Path.{◌≡◌, refl, sym, ◌∙◌, ap, ap₂}
 use Prim.Native.Nat.{ℕ, ◌+◌, ◌/◌, ◌≤◌}
 use native.Mathlib.Omega.{arith}
-use lib.Dec.{leb, leb→le}
+use lib.Dec.{leb}
 use lib.IntN.{ℤ}
-use lib.ListN.{length, take, length-map, length-take}
+use lib.ListN.{length, take, length-map}
 use lib.Seq.{take-length}
 use borrow.Author.Tests.{le-leb}
 use Rattle.rules.specs.Line.{one, two}
@@ -16,7 +16,6 @@ use Rattle.rules.specs.Trains.{Section, asked, aim, count_at, count, trains, run
 use Rattle.rules.specs.Orders.{by_number, departures_of, plan}
 use Rattle.rules.specs.Refusals.{Refusal, refusals, judge_refusals}
 use Rattle.rules.specs.Answers.{Verdict, value_is, refused, verdict, written, planner_answers, planner_leaves, judge_answers}
-use Rattle.theory.proofs.Choices.{cond_ind}
 use Rattle.best.proofs.Accepted.{accepted, accepted_places}
 use Rattle.best.proofs.Numbers.{trains_count}
 use Rattle.refusals.proofs.Table.{most_bound}
@@ -42,13 +41,6 @@ first_empty (x ∷ xs) ys e = cc
 -- how many trains are printed, of so many
 abbrev pub shown : ℕ → ℕ
 shown n = cond (leb n 96) n 0
-
-pub shown_few : (n : ℕ) → (shown n ≤ 96) × (shown n ≤ n)
-shown_few n = cond_ind (λ k. (k ≤ 96) × (k ≤ n)) (leb n 96) (λ t. (leb→le n 96 t, omega arith)) (λ _. (omega arith, omega arith))
-
--- at most 96 of any list
-pub still_few : {r : ℕ} (departures : List ℕ) → r ≤ 96 → length (take r departures) ≤ 96
-still_few departures h = rw length-take (omega arith)
 
 module _ (S : Section) where
   few : (places : ℕ) → refusals S places ≡ [] → count S ≤ 96

@@ -1,12 +1,12 @@
 -- What is put onto a page piece by piece is put as one.
 use mathlib.Core.Bool.{cond}
-use mathlib.Core.List.{List, [], ◌∷◌, ◌++◌, append-nil}
-use mathlib.Core.Path.{◌≡◌, refl, sym}
+use mathlib.Core.List.{List, [], ◌∷◌, ◌++◌}
+use mathlib.Core.Path.{◌≡◌}
 use Prim.Native.Nat.{ℕ, ◌+◌, ◌-◌, ◌≤◌, ◌<◌, ◌^◌}
 use native.Mathlib.Omega.{arith}
 use lib.Dec.{ltb}
 use lib.IntN.{ℤ, pos}
-use lib.ListN.{length, take, length-append}
+use lib.ListN.{length, length-append}
 use mir.Syntax.{w64}
 use mir.Val.{SFits, to_z}
 use mir.Facts.{to_z_pos}
@@ -31,10 +31,6 @@ number_room {n = n} h p = omega (arith, rw (to_z_pos w64 {n = n} h) at p.added.e
 
 pub field_room : {page page' : List ℕ} {at r : ℕ} (z : ℤ) → SFits w64 z → Put page at (32 ∷ signed z) page' r → r ≤ at + 21
 field_room z fits p = omega (arith, p.added.ends, signed_length z fits)
-
-pub put_nothing : (page : List ℕ) (at : ℕ) → length page ≡ 8192 → Put page at [] page at
-put_nothing page at whole =
-    record { added = record { ends = omega arith; shows = sym (append-nil (take at page)); keeps = refl }; whole = whole }
 
 digits_few : (n : ℕ) → n < 2 ^ 63 → length (signed (pos n)) ≤ 20
 digits_few n h = signed_length (pos n) (record { sfits = h })

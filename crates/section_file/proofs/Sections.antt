@@ -1,7 +1,7 @@
 -- Laws of a file's numbers: the numbers from a place on, the section that begins there, and the four sections of a file.
 use borrow.Author.Rules.{sfits_of}
 use borrow.Author.Tests.{ltb-true, ltb-false, lt-leb, le-leb}
-use mathlib.Core.Bool.{Bool, true, false, ◌&&◌, ◌||◌, cond, true≢false}
+use mathlib.Core.Bool.{Bool, true, false, ◌&&◌, ◌||◌, cond}
 use mathlib.Core.List.{List, [], ◌∷◌}
 use mathlib.Core.Path.{◌≡◌, refl, sym, ap, ◌∙◌, subst}
 use mir.Facts.{and_yes, to_z-of_z}
@@ -41,20 +41,6 @@ not_below (pos a) (pos b) e = le-leb a b (ltb-false b a e)
 not_below (pos a) (negsuc b) e = sym e
 not_below (negsuc a) (pos b) e = refl
 not_below (negsuc a) (negsuc b) e = le-leb b a (ltb-false a b e)
-
--- ---- one turn along the numbers
-
-pub every_at : (p : ℤ → Bool) (values : List ℤ) (k : ℕ) → k < length values
-    → every p (drop k values) ≡ p (get_or values k (pos 0)) && every p (drop (k + 1) values)
-every_at p values k h = rw (drop-cons values k (pos 0) h, add-one k)
-
-pub signed_at : (values : List ℤ) (k : ℕ) → k < length values → lt_z (get_or values k (pos 0)) (pos 0) ≡ true
-    → every (le_z (pos 0)) (drop k values) ≡ false
-signed_at values k h e = rw (every_at (le_z (pos 0)) values k h, below (pos 0) (get_or values k (pos 0)) e)
-
-pub unsigned_at : (values : List ℤ) (k : ℕ) → k < length values → lt_z (get_or values k (pos 0)) (pos 0) ≡ false
-    → every (le_z (pos 0)) (drop k values) ≡ every (le_z (pos 0)) (drop (k + 1) values)
-unsigned_at values k h e = rw (every_at (le_z (pos 0)) values k h, not_below (pos 0) (get_or values k (pos 0)) e)
 
 -- ---- the section at a place
 
@@ -111,12 +97,6 @@ module _ (values : List ℤ) (at : ℕ) (least most : ℤ) (minus : Bool)
         found = sym (rw (tells, not_below least n e, not_below n most f, le-leb _ _ h, g, add-sub_cancel_left (at + 1) (nat_abs n)));
         placed = stands inside;
       }
-
--- a count that is not below the least is not below 0
-pub counts : (least n : ℤ) → T (non_neg least) → lt_z n least ≡ false → T (non_neg n)
-counts (pos l) (pos n) t e = tt
-counts (pos l) (negsuc n) t e = absurd (true≢false e)
-counts (negsuc l) n t e = absurd t
 
 -- ---- what a section has
 

@@ -8,7 +8,7 @@ use Prim.Native.Nat.{◌+◌, ◌<◌, ◌^◌}
 use lib.IntN.{ℤ, pos}
 use lib.ListN.{get_or}
 use lib.Signed.{mag, nat_abs-le}
-use Rattle.section_file.proofs.Sections.{read_back, section_inside, heading_within, heading_unsigned, no_heading, no_one, no_two, no_recorded, more_follows, is_file}
+use Rattle.section_file.proofs.Sections.{read_back, heading_within, heading_unsigned, no_heading, no_one, no_two, no_recorded, more_follows, is_file}
 use Rattle.section_file.proofs.layout.find.Goals as goal
 
 pub returns-in_default : goal.returns-in_default

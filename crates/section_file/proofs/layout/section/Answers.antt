@@ -1,6 +1,5 @@
 -- A section is told by its count, and read where there are as many numbers.
 use borrow.Author.Rules.{rules}
-use mathlib.Core.Bool.{false}
 use mathlib.Core.Path.{◌≡◌}
 use mir.Facts.{to_z-of_z}
 use mir.Syntax.{w32}
@@ -9,7 +8,7 @@ use native.Mathlib.Nat.{add-sub_cancel_left}
 use Prim.Native.Nat.{◌+◌}
 use lib.IntN.{ℤ, pos, nat_abs}
 use lib.ListN.{get_or, take, drop}
-use lib.Signed.{le_z, lt_z}
+use lib.Signed.{le_z}
 use Rattle.rules.specs.Lists.{every}
 use Rattle.section_file.proofs.Sections.{past_end, too_few, too_many, cut_short, minus_found, is_section}
 use Rattle.section_file.proofs.layout.section.Goals as goal

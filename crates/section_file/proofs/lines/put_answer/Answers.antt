@@ -1,6 +1,5 @@
 -- Either way out is what the answer says.
 use borrow.Author.Rules.{rules}
-use mathlib.Core.Path.{refl}
 use mir.Facts.{to_z-of_z}
 use mir.Syntax.{w64}
 use mir.Val.{SFits}

@@ -15,11 +15,12 @@ loop-k-preserved c =
     let departures = c.args.departures.now in
     let departure_fits : get_or departures k 0 < 2 ^ 32 = omega (arith, c.type_inv.departures k) in
     let running_fits : c.args.timing.running < 2 ^ 32 = search rules in
-    let put = c.put_train-end.ensures in
-    (omega arith,
-    omega (arith, put.added.ends, line_room c.args.timing c.args.ones k (get_or departures k 0) (omega arith) departure_fits running_fits),
-    rw (next_line (λ i. kth_line c.args.timing c.args.ones i (get_or departures i 0)) k)
-    (put_on c.loop-k.invariant.2 put))
+    let put = c.put_train-end.ensures in (
+      omega arith,
+      omega (arith, put.added.ends, line_room c.args.timing c.args.ones k (get_or departures k 0) (omega arith) departure_fits running_fits),
+      rw (next_line (λ i. kth_line c.args.timing c.args.ones i (get_or departures i 0)) k)
+          (put_on c.loop-k.invariant.2 put),
+    )
 
 pub returns : goal.returns
 unfolding lines_of

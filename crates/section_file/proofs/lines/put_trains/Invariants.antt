@@ -1,5 +1,5 @@
 -- The loop's invariant: the lines of the trains so far are put, and have taken no more than their room.
-use Rattle.std.proofs.Common.{length, ◌-◌, ◌+◌, ◌*◌, ◌≡◌, ◌≤◌}
+use Rattle.std.proofs.Common.{length, ◌-◌, ◌+◌, ◌*◌, ◌≤◌}
 use Rattle.section_file.specs.Page.{Put}
 use Rattle.section_file.proofs.Trains.{so_far}
 use Rattle.section_file.proofs.lines.put_trains.Given as goal

@@ -12,9 +12,10 @@ put-ended-requires-clause-room c =
 
 pub put_trains-requires-clause-room : goal.put_trains-requires-clause-room
 put_trains-requires-clause-room c =
-    let valued = simp (to_z-of_z c.ranges.value) at c.put_field-valued.ensures in
-    (omega arith,
-    omega (arith, c.put-ended.ensures.added.ends, field_room _ c.ranges.value valued, c.put-named.ensures.added.ends))
+    let valued = simp (to_z-of_z c.ranges.value) at c.put_field-valued.ensures in (
+      omega arith,
+      omega (arith, c.put-ended.ensures.added.ends, field_room _ c.ranges.value valued, c.put-named.ensures.added.ends),
+    )
 
 pub returns : goal.returns
 returns c =
