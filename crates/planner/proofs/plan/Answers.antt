@@ -25,7 +25,7 @@ returns c =
     let S = asked c.args.objective c.args.timing c.args.one.now c.args.two.now in
     let right = planned_call S c.args.departures.now (nothing_refused c.refusal-call.result (pos 0) _ c.in-Value.is c.refusal-call.ensures) in
     let whole =
-        promised S c.args.departures.now (record { outcome = Value c.planned.result }) c.planned.new.departures
-        (ap value_is c.planned.ensures.value ∙ right.0)
-        (c.planned.ensures.leaves ∙ right.1) in
+    promised S c.args.departures.now (record { outcome = Value c.planned.result }) c.planned.new.departures
+    (ap value_is c.planned.ensures.value ∙ right.0)
+    (c.planned.ensures.leaves ∙ right.1) in
     rw (to_z-of_z (sfits_of c.planned.type_inv)) (record { answers = whole.0; leaves = whole.1.0; best_left = whole.1.1 })

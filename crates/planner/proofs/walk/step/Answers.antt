@@ -29,7 +29,7 @@ tested : {w : Terms} {list list' : List ℤ} {first second : List ℕ} → Plann
 tested {w} {list} {list'} P {counts} {changes} T {c} R K some some' x_next {after} after_is {spent} spent_is goal test =
     let sent : after ≡ goes_on (asked_by w list list') c true = after_is ∙ goes _ _ _ _ _ P _ R true some x_next in
     let comes : spent ≡ comes_to (asked_by w list list') (goes_on (asked_by w list list') c true) =
-        (rw sent at spent_is) ∙ day_is _ _ _ _ _ P T _ R K some in
+    (rw sent at spent_is) ∙ day_is _ _ _ _ _ P T _ R K some in
     goes_by_goal (asked_by w list list') goal c some (omega arith) ∙ ap (λ v. le_z v goal) (sym comes) ∙ test
 
 pub next_train-x-requires : goal.next_train-x-requires
@@ -53,22 +53,22 @@ returns-then-clock-eq0 c =
 pub day-requires-clause-held : goal.day-requires-clause-held
 day-requires-clause-held c =
     let sent : c.next-after.result ≡ goes_on (asked_by c.args.terms c.args.one.now c.args.two.now) c.args.clock true =
-        c.next-after.ensures ∙ goes _ _ _ _ _ c.requires.planning _ c.requires.running true c.if-clock-gt0.true c.next_train-x.ensures in
+    c.next-after.ensures ∙ goes _ _ _ _ _ c.requires.planning _ c.requires.running true c.if-clock-gt0.true c.next_train-x.ensures in
     rw sent (day_asks _ _ _ _ _ c.requires.planning c.requires.tables _ c.requires.running c.requires.counted c.if-clock-gt0.true).0
 
 pub day-requires-clause-fits : goal.day-requires-clause-fits
 day-requires-clause-fits c =
     let sent : c.next-after.result ≡ goes_on (asked_by c.args.terms c.args.one.now c.args.two.now) c.args.clock true =
-        c.next-after.ensures ∙ goes _ _ _ _ _ c.requires.planning _ c.requires.running true c.if-clock-gt0.true c.next_train-x.ensures in
+    c.next-after.ensures ∙ goes _ _ _ _ _ c.requires.planning _ c.requires.running true c.if-clock-gt0.true c.next_train-x.ensures in
     rw sent (day_asks _ _ _ _ _ c.requires.planning c.requires.tables _ c.requires.running c.requires.counted c.if-clock-gt0.true).1
 
 pub returns-then-day-goal : goal.returns-then-day-goal
 unfolding step
 returns-then-day-goal c =
     let goes_first : goes_one (asked_by c.args.terms c.args.one.now c.args.two.now) c.args.goal c.args.clock ≡ true =
-        tested c.requires.planning c.requires.tables c.requires.running c.requires.counted c.if-clock-gt0.true c.if-clock-eq0.false
-        c.next_train-x.ensures c.next-after.ensures c.day.ensures c.args.goal
-        (rw (to_z-of_z (sfits_of c.day.type_inv), to_z-of_z c.ranges.goal) at c.if-day-goal.true) in
+    tested c.requires.planning c.requires.tables c.requires.running c.requires.counted c.if-clock-gt0.true c.if-clock-eq0.false
+    c.next_train-x.ensures c.next-after.ensures c.day.ensures c.args.goal
+    (rw (to_z-of_z (sfits_of c.day.type_inv), to_z-of_z c.ranges.goal) at c.if-day-goal.true) in
     rw goes_first
     (c.next-after.ensures ∙ goes _ _ _ _ _ c.requires.planning _ c.requires.running true c.if-clock-gt0.true c.next_train-x.ensures)
 
@@ -81,11 +81,11 @@ next_train-y-requires c =
 waits : (c : goal.Joined-clock-gt0) → goes_one (asked_by c.args.terms c.args.one.now c.args.two.now) c.args.goal c.args.clock ≡ false
 waits c =
     elim c.if-clock-gt0.branch [
-      then-clock-gt0+else-clock-eq0+else-day-goal w ↦
+      | then-clock-gt0+else-clock-eq0+else-day-goal w ↦
           tested c.requires.planning c.requires.tables c.requires.running c.requires.counted w.if-clock-gt0.true w.if-clock-eq0.false
           w.next_train-x.ensures w.next-after.ensures w.day.ensures c.args.goal
           (rw (to_z-of_z (sfits_of w.day.type_inv), to_z-of_z c.ranges.goal) at w.if-day-goal.false)
-    | else-clock-gt0 w ↦
+      | else-clock-gt0 w ↦
           goes_two_alone (asked_by c.args.terms c.args.one.now c.args.two.now) c.args.goal c.args.clock (omega (arith, w.if-clock-gt0.false))
     ]
 
