@@ -6,6 +6,7 @@ ghost use Rattle.judge.specs.Conflicts.{first_late, breaks, conflict_after, Foun
 use rules::Timing;
 
 // The first train whose departure is above 10,000,000, or the number of trains.
+#[tactic(auto, using(crate::proofs::Late::late_here, crate::proofs::Late::late_further))]
 pub fn first_late(departures: &[u32]) -> usize
     ensures { result ≡ first_late departures.now }
 {
