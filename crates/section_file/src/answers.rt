@@ -17,6 +17,7 @@ fn printed_count(count: usize) -> usize
 }
 
 // Plans a section with as many departures as trains, and puts the answer.
+#[tactic(auto, using(refusals::proofs::Table::numbers_positive))]
 fn put_planned(
     page: &mut [u8; 8192],
     objective: u32,
@@ -36,6 +37,7 @@ fn put_planned(
 }
 
 // Plans a section and puts the answer.
+#[tactic(auto, using(refusals::proofs::Table::numbers_positive))]
 pub fn put_plan(
     page: &mut [u8; 8192],
     objective: u32,
@@ -53,6 +55,7 @@ pub fn put_plan(
 }
 
 // Judges recorded departures of a section and puts the answer.
+#[tactic(auto, using(refusals::proofs::Table::numbers_positive))]
 pub fn put_judgement(
     page: &mut [u8; 8192],
     objective: u32,

@@ -14,6 +14,7 @@ use rules::Timing;
 use text::read::Scan;
 
 // Puts the line `unreadable`.
+#[tactic(auto, unfolding(crate::specs::Lines::unreadable_word))]
 fn put_unreadable(page: &mut [u8; 8192]) -> usize
     requires { length page.old ≡ 8192 }
     ensures { Put page.old 0 (answered unreadable) page.new result }
@@ -53,6 +54,7 @@ fn put_recorded(
 }
 
 // The values of a span.
+#[tactic(auto, unfolding(crate::specs::Found::spanned))]
 fn part<'a>(values: &'a [i32], span: Span) -> &'a [i32]
     requires { Listed (length values.now) span }
     ensures { result.now ≡ spanned values.now span }
