@@ -177,7 +177,6 @@ fn sum(a: i64, b: i64) -> i64
 }
 
 // Two costs as one: their sum, held to 64 bits, or the larger.
-#[tactic(auto, using(crate::proofs::Table::joined_by, crate::proofs::Held::held_fits))]
 pub fn joined(objective: u32, a: i64, b: i64) -> i64
     ensures { result ≡ held ((aim_of objective).joined a b) }
 {

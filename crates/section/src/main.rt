@@ -1,14 +1,18 @@
 // The program `section`: a section file on standard input, its answer on standard output.
 #![tactic(auto)]
 
-ghost use Rattle.std.specs.Prelude.{◌≤◌, length, IfOk};
+ghost use Rattle.std.specs.Prelude.{◌<◌, ◌≤◌, length, take, IfOk, IfSome, OnOk};
+ghost use Rattle.std.specs.Io.KnownBytes.{Appends, Consumes, IsAtEnd};
+ghost use Rattle.section_file.specs.Answer.{answer};
 
 use std::io;
-use std::io::Read;
+use std::io::{Read, Write};
 
 // Reads until `text` is full or the input ends, and gives how many bytes were read.
 fn read_full<R: Read>(input: &mut R, text: &mut [u8]) -> io::Result<usize>
-    ensures { IfOk result (λ n. n ≤ length text.new) }
+    ensures within { IfOk result (λ n. n ≤ length text.new) }
+    ensures bytes { IfOk result (λ n. Consumes (R.remaining input.old) (R.remaining input.new) (take n text.new)) }
+    ensures ended { IfOk result (λ n. n < length text.new → IsAtEnd (R.remaining input.new)) }
 {
     let mut n = 0;
     while n < text.len() {
@@ -21,12 +25,19 @@ fn read_full<R: Read>(input: &mut R, text: &mut [u8]) -> io::Result<usize>
     Ok(n)
 }
 
+// Writes the answer to all that an input has.
 // One byte more than a file may have is read, so that a longer one is noticed.
-fn main(rt: HostRuntime) -> io::Result<()> {
+fn answer_input<R: Read, W: Write>(input: &mut R, output: &mut W) -> io::Result<()>
+    ensures { OnOk result (IfSome (R.remaining input.old) (λ xs. Appends (W.contents output.old) (W.contents output.new) (answer xs))) }
+{
     let mut text: [u8; 16385] = [0; 16385];
-    let n = read_full(&mut rt.stdin(), &mut text)?;
+    let n = read_full(input, &mut text)?;
     let printed = section_file::answer_text(&text[..n]);
     let bytes = printed.bytes;
     let count = printed.count;
-    rt.write_all(&bytes[..count])
+    output.write_all(&bytes[..count])
+}
+
+fn main(rt: HostRuntime) -> io::Result<()> {
+    answer_input(&mut rt.stdin(), &mut rt.stdout())
 }

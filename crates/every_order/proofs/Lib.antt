@@ -1,2 +1,0 @@
--- What the proofs of this crate's functions cite.
-pub mod Signed
