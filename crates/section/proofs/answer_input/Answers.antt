@@ -1,5 +1,5 @@
 -- What was read is all of the input, or longer than a file may be, as the input then is: either way the answer to it is the input's.
-use Rattle.std.proofs.Common.{◌≡◌, refl, ℕ, Bool, true, false, ltb, ltb-false, ◌+◌, ◌<◌, ◌≤◌, List, [], ◌++◌, Option, None, Some, IfSome, OnOk, rules, arith, length, take, sym, ap, ◌∙◌, subst, append-nil, length-append, length-take-le}
+use Rattle.std.proofs.Common.{◌≡◌, refl, ℕ, Bool, true, false, ltb, ltb-false, ◌<◌, List, ◌++◌, Option, None, Some, IfSome, rules, arith, length, sym, ap, ◌∙◌, subst, append-nil, length-append, length-take-le}
 use borrow.Author.Tests.{lt-leb, ltb-true}
 use Rattle.std.specs.Io.KnownBytes.{Appends, Consumes, IsAtEnd}
 use Rattle.std.proofs.lemmas.Result.{on_ok_weaker}
