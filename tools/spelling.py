@@ -21,7 +21,7 @@ TOP = re.compile(r"/specs/|/proofs/[A-Z]\w*\.antt$")
 # A library's name that is only cited behind its module.
 CITED = {"not-nil"}
 # What port.py took for a library's facts.
-MENDED = {"Apart-of": "apart_of", "held_Fits": "held_fits", "byte-Reads": "byte_reads", "not_T": "not_true"}
+MENDED = {"Apart-of": "apart_of", "held_Fits": "held_fits", "byte-Reads": "byte_reads"}
 
 
 def files(ending):

@@ -1,0 +1,2 @@
+-- What the promises of the C functions leave open: nothing.
+pub mod Unique
