@@ -20,8 +20,6 @@ MADE = re.compile(r"(?:tie|goal)\.|\{M : Type 1\}")
 TOP = re.compile(r"/specs/|/proofs/[A-Z]\w*\.antt$")
 # A library's name that is only cited behind its module.
 CITED = {"not-nil"}
-# What port.py took for a library's facts.
-MENDED = {"Apart-of": "apart_of", "held_Fits": "held_fits", "byte-Reads": "byte_reads"}
 
 
 def files(ending):
@@ -37,7 +35,7 @@ def code(text):
 
 
 def spelled(name):
-    return MENDED.get(name) or re.sub(r"(?<=[^\W\d])-(?=\w)|(?<=ℤ)-(?=\w)|(?<=\d)-(?=\w)", "_", name)
+    return re.sub(r"(?<=[^\W\d])-(?=\w)|(?<=ℤ)-(?=\w)|(?<=\d)-(?=\w)", "_", name)
 
 
 def own_names(texts):
@@ -56,7 +54,7 @@ def own_names(texts):
                 m = re.match(r"(?:(?:abbrev|pub|unfoldable|data|record) )*(\S+) :(.*)", line)
                 if m and not MADE.search(m.group(2)) and not m.group(1).endswith("-spec"):
                     own.add(m.group(1))
-    return {n for n in own - kit - CITED if n in MENDED or re.search(r"[^\W\d_]", n) and "-" in n and spelled(n) != n}
+    return {n for n in own - kit - CITED if re.search(r"[^\W\d_]", n) and "-" in n and spelled(n) != n}
 
 
 def turned(text, names):

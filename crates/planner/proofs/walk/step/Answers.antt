@@ -50,17 +50,12 @@ returns-then-clock-eq0 c =
     rw (goes_one_alone (asked_by c.args.terms c.args.one.now c.args.two.now) c.args.goal c.args.clock c.if-clock-gt0.true c.if-clock-eq0.true)
     (c.next-after.ensures ∙ goes _ _ _ _ _ c.requires.planning _ c.requires.running true c.if-clock-gt0.true c.next_train-x.ensures)
 
-pub day-requires-clause-held : goal.day-requires-clause-held
-day-requires-clause-held c =
+pub day-requires : goal.day-requires
+day-requires c =
     let sent : c.next-after.result ≡ goes_on (asked_by c.args.terms c.args.one.now c.args.two.now) c.args.clock true =
     c.next-after.ensures ∙ goes _ _ _ _ _ c.requires.planning _ c.requires.running true c.if-clock-gt0.true c.next_train-x.ensures in
-    rw sent (day_asks _ _ _ _ _ c.requires.planning c.requires.tables _ c.requires.running c.requires.counted c.if-clock-gt0.true).0
-
-pub day-requires-clause-fits : goal.day-requires-clause-fits
-day-requires-clause-fits c =
-    let sent : c.next-after.result ≡ goes_on (asked_by c.args.terms c.args.one.now c.args.two.now) c.args.clock true =
-    c.next-after.ensures ∙ goes _ _ _ _ _ c.requires.planning _ c.requires.running true c.if-clock-gt0.true c.next_train-x.ensures in
-    rw sent (day_asks _ _ _ _ _ c.requires.planning c.requires.tables _ c.requires.running c.requires.counted c.if-clock-gt0.true).1
+    let asks = day_asks _ _ _ _ _ c.requires.planning c.requires.tables _ c.requires.running c.requires.counted c.if-clock-gt0.true in
+    record { held = rw sent asks.0; fits = rw sent asks.1 }
 
 pub returns-then-day-goal : goal.returns-then-day-goal
 unfolding step
