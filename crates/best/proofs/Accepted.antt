@@ -9,7 +9,9 @@ use native.Mathlib.Omega.{arith}
 use borrow.Author.Tests.{ltb-false}
 use lib.Dec.{T, eqb, eqb→eq}
 use lib.ListN.{length}
-use Rattle.rules.specs.Line.{Station, one, two, good_timing}
+use Rattle.rules.specs.declared.Station.{Station}
+use Rattle.rules.specs.declared.Station.TheVariants.{One as one, Two as two}
+use Rattle.rules.specs.Line.{good_timing}
 use Rattle.rules.specs.Trains.{Section, aim, list_at, count_at, count, Train, trains}
 use Rattle.rules.specs.Refusals.{naming, ragged, crowded, call_refusals, train_refusals, refusals}
 use Rattle.rules.proofs.Refusals.{refuse_none}

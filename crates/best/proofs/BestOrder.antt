@@ -3,7 +3,8 @@ use mathlib.Core.List.{List, map}
 use mathlib.Core.Path.{◌≡◌, refl, sym, ◌∙◌, ap}
 use Prim.Native.Nat.{◌<◌}
 use lib.ListN.{length}
-use Rattle.rules.specs.Line.{Station, one, two}
+use Rattle.rules.specs.declared.Station.{Station}
+use Rattle.rules.specs.declared.Station.TheVariants.{One as one, Two as two}
 use Rattle.rules.specs.Trains.{Section, aim, count_at, count, Train, Run}
 use Rattle.rules.specs.Orders.{Order, orders, leaving, station_order, schedule, by_number, departures_of, value_of, best_order, best_value}
 use Rattle.theory.specs.Line.{Lawful}

@@ -5,7 +5,7 @@ use Prim.Native.Nat.{ℕ, ◌≤◌, zero-le}
 use native.Mathlib.Nat.{le_of_lt}
 use lib.Dec.{eqb}
 use lib.ListN.{get_or}
-use Rattle.rules.specs.Line.{one, two}
+use Rattle.rules.specs.declared.Station.TheVariants.{One as one, Two as two}
 use Rattle.rules.specs.Trains.{Section, aim, Train, Run, runs}
 use Rattle.rules.specs.Safe.{Safe}
 use Rattle.rules.specs.Orders.{Order, leaving, station_order, departure_of, by_number, departures_of}

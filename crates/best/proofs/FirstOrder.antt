@@ -7,7 +7,7 @@ use lib.Dec.{T}
 use lib.IntN.{ℤ}
 use lib.ListN.{length, length-append, length-map}
 use lib.Signed.{◌≤ℤ◌, ◌<ℤ◌, le_z, lt_z, le_z_yes, lt_z_yes, lt_z_no, <ℤ-≤ℤ_trans, clash_ℤ}
-use Rattle.rules.specs.Line.{one, two}
+use Rattle.rules.specs.declared.Station.TheVariants.{One as one, Two as two}
 use Rattle.rules.specs.Trains.{Section, count_at}
 use Rattle.rules.specs.Orders.{Order, orders, value_of, first_least, first_best, best_order}
 use Rattle.theory.specs.Integers.{sum}

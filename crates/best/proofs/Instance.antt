@@ -6,7 +6,8 @@ use native.Mathlib.Omega.{arith}
 use lib.Dec.{T}
 use lib.IntN.{ℤ}
 use lib.ListN.{length}
-use Rattle.rules.specs.Line.{Station, good_timing, arrival, gap}
+use Rattle.rules.specs.declared.Station.{Station}
+use Rattle.rules.specs.Line.{good_timing, arrival, gap}
 use Rattle.rules.specs.Trains.{Section, aim, Train, Run}
 use Rattle.rules.specs.Value.{cost_of, join_on, join_all}
 use Rattle.rules.specs.Orders.{sent}

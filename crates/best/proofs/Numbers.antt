@@ -9,7 +9,8 @@ use native.Mathlib.Omega.{arith}
 use lib.ListN.{length, get_or, length-map, length-append}
 use lib.Seq.{get_or_at}
 use Rattle.rules.specs.Lists.{count_from}
-use Rattle.rules.specs.Line.{Station, one, two}
+use Rattle.rules.specs.declared.Station.{Station}
+use Rattle.rules.specs.declared.Station.TheVariants.{One as one, Two as two}
 use Rattle.rules.specs.Trains.{Section, count_at, count, Train, first_number, train_at, trains_at, trains, Run, runs}
 use Rattle.rules.proofs.Trains.{count_on, count_past}
 use Rattle.theory.specs.Schedule.{All, Pairs}

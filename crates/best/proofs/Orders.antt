@@ -4,7 +4,7 @@ use mathlib.Core.List.{List, [], ◌∷◌, ◌++◌, map, map-map, map-append}
 use mathlib.Core.Path.{◌≡◌, refl, sym, ◌∙◌, ap, ap₂}
 use Prim.Native.Nat.{suc, zero}
 use lib.ListN.{length}
-use Rattle.rules.specs.Line.{one, two}
+use Rattle.rules.specs.declared.Station.TheVariants.{One as one, Two as two}
 use Rattle.rules.specs.Trains.{Train}
 use Rattle.rules.specs.Orders as R
 use Rattle.theory.specs.Orders.{days}

@@ -4,7 +4,9 @@ use mathlib.Core.Path.{◌≡◌, refl, sym}
 use Prim.Native.Nat.{◌<◌}
 use native.Mathlib.Omega.{arith}
 use lib.Dec.{T, leb→le, le→leb, ltb→lt, lt→ltb}
-use Rattle.rules.specs.Line.{Station, one, two, apart, same_station}
+use Rattle.rules.specs.declared.Station.{Station}
+use Rattle.rules.specs.declared.Station.TheVariants.{One as one, Two as two}
+use Rattle.rules.specs.Line.{apart, same_station}
 use Rattle.rules.specs.Trains.{Section, aim, Run}
 use Rattle.rules.specs.Safe.{in_order, keeps}
 use Rattle.rules.proofs.Tests.{both, either, if_both}

@@ -7,7 +7,8 @@ use Prim.Native.Nat.{◌≤◌}
 use native.Mathlib.Nat.{le_of_lt}
 use native.Mathlib.Omega.{arith}
 use lib.Dec.{T}
-use Rattle.rules.specs.Line.{Station, gap, arrival}
+use Rattle.rules.specs.declared.Station.{Station}
+use Rattle.rules.specs.Line.{gap, arrival}
 use Rattle.rules.specs.Trains.{Section, aim, Train, trains_at, Run}
 use Rattle.rules.specs.Value.{cost_of}
 use Rattle.rules.specs.Orders.{station_order}

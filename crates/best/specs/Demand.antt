@@ -1,7 +1,7 @@
 -- Demand 3: the plan is safe, it has the best value, no safe schedule has a smaller one; and each string's schedule is the earliest of its order.
 -- The statements are over the rules alone; `demand_3` in proofs/ shows them of every section that the planner does not refuse.
 use Rattle.std.specs.Prelude.{List, ◌∷◌, ◌≡◌, ℕ, ◌≤◌, ◌<◌, get_or, ◌≤ℤ◌, ◌<ℤ◌}
-use Rattle.rules.specs.Line.{one, two}
+use Rattle.rules.specs.declared.Station.TheVariants.{One as one, Two as two}
 use Rattle.rules.specs.Trains.{Section, count_at, Train}
 use Rattle.rules.specs.Safe.{Safe}
 use Rattle.rules.specs.Value.{value}

@@ -1,7 +1,9 @@
 -- What trainees ask: can waiting help, can another order within a station, is the longer queue first best?
 -- The answers are stated here over the rules, and shown in proofs/Trainees.antt.
 use Rattle.std.specs.Prelude.{cond, List, ◌++◌, map, ℕ, ◌≤◌, leb, get_or, replicate, ◌≤ℤ◌}
-use Rattle.rules.specs.Line.{Station, one, two, arrival}
+use Rattle.rules.specs.declared.Station.{Station}
+use Rattle.rules.specs.declared.Station.TheVariants.{One as one, Two as two}
+use Rattle.rules.specs.Line.{arrival}
 use Rattle.rules.specs.Trains.{Section, count_at, Train, trains_at, runs}
 use Rattle.rules.specs.Safe.{Safe}
 use Rattle.rules.specs.Value.{value}

@@ -1,56 +1,55 @@
 // The largest sections and texts, and one beyond each.
-use crate::draft::{put, repeat, show_first};
+use crate::answers::show;
+use std::alloc::{AllocError, Global};
 use std::io;
 
-// Puts a heading, and for each station the count of its list's numbers and so many trains; gives the place after them.
-fn put_lists(text: &mut [u8], heading: &[u8], count: &[u8], train: &[u8], trains: usize) -> usize {
-    let headed = put(text, 0, heading);
-    let first = put(text, headed, count);
-    let one = repeat(text, first, train, trains);
-    let second = put(text, one, count);
-    repeat(text, second, train, trains)
-}
-
-// Shows the plan of stations with so many trains each.
-fn show_plan(
-    rt: &impl Print,
-    name: &[u8],
-    heading: &[u8],
-    count: &[u8],
-    train: &[u8],
+// The heading and the lists of a section whose stations have so many trains each, all with the same numbers.
+fn listed(
+    alloc: Global,
+    heading: &str,
+    numbers: usize,
+    train: &str,
     trains: usize,
-) -> io::Result<()> {
-    let mut text: [u8; 2048] = [32; 2048];
-    let listed = put_lists(&mut text, heading, count, train, trains);
-    let end = put(&mut text, listed, b" 0\n");
-    show_first(rt, name, &text, end)
+) -> Result<String, AllocError> {
+    let list = train.repeat(alloc, trains)?;
+    format!(in alloc; "{heading} {numbers}{list} {numbers}{list}")
 }
 
 // Full stations.
-pub fn stations(rt: &impl Print) -> io::Result<()> {
-    show_plan(rt, b"48 trains a station", b"3 2 10 2", b" 48", b" 0", 48)?;
-    show_plan(rt, b"49 trains a station", b"3 2 10 2", b" 49", b" 0", 49)?;
-    let row = b" 1 0 0 0 0 0 0 0 0 0 0 0 0 0 0 0 0";
-    show_plan(rt, b"12 rows a station", b"3 3 10 2", b" 204", row, 12)?;
-    show_plan(rt, b"13 rows a station", b"3 3 10 2", b" 221", row, 13)
+pub fn stations(rt: &(impl Print + AllocGlobal)) -> io::Result<()> {
+    let row = " 1 0 0 0 0 0 0 0 0 0 0 0 0 0 0 0 0";
+    for (name, heading, numbers, train, trains) in [
+        ("48 trains a station", "3 2 10 2", 48, " 0", 48),
+        ("49 trains a station", "3 2 10 2", 49, " 0", 49),
+        ("12 rows a station", "3 3 10 2", 204, row, 12),
+        ("13 rows a station", "3 3 10 2", 221, row, 13),
+    ] {
+        let lists = listed(rt.alloc(), heading, numbers, train, trains)?;
+        let text = format!(in rt.alloc(); "{lists} 0\n")?;
+        show(rt, name, text.as_bytes())?;
+    }
+    Ok(())
 }
 
 // Full sections of a text.
-pub fn sections(rt: &impl Print) -> io::Result<()> {
-    let mut text: [u8; 16385] = [32; 16385];
-    let listed = put_lists(&mut text, b"3 2 10 2", b" 512", b" 0", 512);
-    let counted = put(&mut text, listed, b" 512");
-    let end = repeat(&mut text, counted, b" 0", 512);
-    show_first(rt, b"512 numbers in each section", &text, end)?;
-    let more = put(&mut text, listed, b" 513");
-    let after = repeat(&mut text, more, b" 0", 513);
-    show_first(rt, b"513 recorded departures", &text, after)
+pub fn sections(rt: &(impl Print + AllocGlobal)) -> io::Result<()> {
+    let lists = listed(rt.alloc(), "3 2 10 2", 512, " 0", 512)?;
+    for (name, count) in [
+        ("512 numbers in each section", 512),
+        ("513 recorded departures", 513),
+    ] {
+        let recorded = " 0".repeat(rt.alloc(), count)?;
+        let text = format!(in rt.alloc(); "{lists} {count}{recorded}")?;
+        show(rt, name, text.as_bytes())?;
+    }
+    Ok(())
 }
 
 // Case D, with spaces after it.
-pub fn texts(rt: &impl Print) -> io::Result<()> {
-    let mut text: [u8; 16385] = [32; 16385];
-    put(&mut text, 0, b"3 2 10 2\n2 1 1\n1 5\n0\n");
-    show_first(rt, b"D in 16384 bytes", &text, 16384)?;
-    show_first(rt, b"D in 16385 bytes", &text, 16385)
+pub fn texts(rt: &(impl Print + AllocGlobal)) -> io::Result<()> {
+    let d = "3 2 10 2\n2 1 1\n1 5\n0\n";
+    let full = format!(in rt.alloc(); "{d:16384}")?;
+    show(rt, "D in 16384 bytes", full.as_bytes())?;
+    let beyond = format!(in rt.alloc(); "{full} ")?;
+    show(rt, "D in 16385 bytes", beyond.as_bytes())
 }

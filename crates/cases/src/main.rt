@@ -4,32 +4,17 @@
 
 use std::io;
 
-mod draft;
+mod answers;
 mod grammar;
 mod largest;
 mod page;
 mod rows;
 
 fn main(rt: HostRuntime) -> io::Result<()> {
-    rows::steps(&rt)?;
-    rows::joined(&rt)?;
-    rows::full(&rt)?;
-    rows::beyond(&rt)?;
-    rows::broken(&rt)?;
-    page::timings(&rt)?;
-    page::weights(&rt)?;
-    page::due_times(&rt)?;
-    page::recorded(&rt)?;
-    page::refused_lists(&rt)?;
+    answers::show_all(&rt, rows::CASES)?;
+    answers::show_all(&rt, page::CASES)?;
     largest::stations(&rt)?;
     largest::sections(&rt)?;
     largest::texts(&rt)?;
-    grammar::space(&rt)?;
-    grammar::other_bytes(&rt)?;
-    grammar::nothing(&rt)?;
-    grammar::numbers(&rt)?;
-    grammar::sizes(&rt)?;
-    grammar::minus(&rt)?;
-    grammar::minus_elsewhere(&rt)?;
-    grammar::sections(&rt)
+    answers::show_all(&rt, grammar::CASES)
 }

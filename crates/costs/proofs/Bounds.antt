@@ -3,10 +3,10 @@
 use mathlib.Core.Bool.{Bool}
 use mathlib.Core.List.{List, [], ◌∷◌}
 use mathlib.Core.Path.{◌≡◌}
-use Prim.Native.Nat.{ℕ, zero, suc, ◌+◌, ◌*◌, ◌≤◌, ◌<◌}
+use Prim.Native.Nat.{ℕ, suc, ◌+◌, ◌*◌, ◌≤◌, ◌<◌}
 use native.Mathlib.Nat.{mul-le-mul_right}
 use native.Mathlib.Omega.{arith}
-use lib.Dec.{T, leb→le}
+use lib.Dec.{T}
 use lib.IntN.{ℤ, pos, negsuc, neg_ℤ, ◌+ℤ◌, ◌*ℤ◌}
 use lib.Signed.{mag, le_z}
 use mir.Syntax.{w64}
@@ -17,34 +17,26 @@ use Rattle.rules.specs.Objectives.{larger, lateness, weighted, by_rows, aim_of}
 use Rattle.rules.proofs.Tests.{both}
 use Rattle.costs.proofs.Table.{each}
 use Rattle.costs.specs.Held.{held}
-use Rattle.costs.proofs.Differences.{mag_difference}
+use Rattle.std.proofs.lemmas.Int.{ints}
 use Rattle.costs.proofs.Held.{held_fits}
-use Rattle.theory.proofs.Choices.{cond_ind}
 
 mag_sum : (a b : ℤ) → mag (a +ℤ b) ≤ mag a + mag b + 1
-mag_sum (pos a) (pos b) = omega arith
-mag_sum (pos a) (negsuc b) = omega (arith, mag_difference a (suc b))
-mag_sum (negsuc a) (pos b) = omega (arith, mag_difference b (suc a))
-mag_sum (negsuc a) (negsuc b) = omega arith
+mag_sum a b = grind (arith, ints)
 
 mag_negated : (a : ℤ) → mag (neg_ℤ a) ≤ mag a + 1
-mag_negated (pos zero) = omega arith
-mag_negated (pos (suc n)) = omega arith
-mag_negated (negsuc n) = omega arith
+mag_negated a = grind (arith, ints)
 
 mag_larger : (a b : ℤ) → mag (larger a b) ≤ mag a + mag b + 1
 unfolding larger
-mag_larger a b = cond_ind (λ z. mag z ≤ mag a + mag b + 1) (le_z a b) (λ t. omega arith) (λ t. omega arith)
+mag_larger a b = grind arith
 
 pub mag_within : (b : ℕ) (z : ℤ) → T (within (pos 0) (pos b) z) → mag z ≤ b
 unfolding within
-mag_within b (pos n) h = omega (arith, leb→le n b (simp both at h).1)
-mag_within b (negsuc n) h = absurd h
+mag_within b z h = grind (arith, ints)
 
 mag_signed : (b : ℕ) (z : ℤ) → T (within (negsuc b) (pos (suc b)) z) → mag z ≤ suc b
 unfolding within
-mag_signed b (pos n) h = omega (arith, leb→le n (suc b) h)
-mag_signed b (negsuc n) h = omega (arith, leb→le n b (simp both at h).0)
+mag_signed b z h = grind (arith, ints)
 
 pub mag_product : (b : ℕ) (z : ℤ) (a : ℕ) → T (within (pos 0) (pos b) z) → mag (z *ℤ pos a) ≤ b * a
 unfolding within
@@ -56,8 +48,8 @@ mag_last : (b : ℕ) (begun : Step → Bool) (ss : List Step) (c : ℤ) → mag 
 mag_last b begun [] c h e = h
 mag_last b begun (s ∷ ss) c h e =
     let (first, rest) = simp both at e in
-    cond_ind (λ z. mag (last_cost c z) ≤ b) (begun s)
-    (λ t. mag_last b begun ss s.cost (mag_within b s.cost first) rest) (λ t. mag_last b begun ss c h rest)
+    let small : mag s.cost ≤ b = mag_within b s.cost first in
+    grind (arith, mag_last b begun ss s.cost small rest, mag_last b begun ss c h rest)
 
 pub joined_bound : (a b : ℤ) (n : ℕ) → mag ((aim_of n).joined a b) ≤ mag a + mag b + 1
 unfolding lateness weighted by_rows

@@ -1,7 +1,6 @@
 -- Laws that the proofs of the functions share.
 pub mod Table
-pub mod Counts
-pub mod Differences
+pub mod Counted
 pub mod Ranges
 pub mod Stretches
 pub mod Rows

@@ -2,20 +2,43 @@
 // Figures are a train's numbers in its list. Every public function is a column of the rules' table.
 #![tactic(auto)]
 
-ghost use Rattle.std.specs.Prelude.{◌≡◌, ◌<◌, min, pos, ◌+ℤ◌};
-ghost use Rattle.std.specs.Int.Signed.{le_z};
-ghost use Rattle.rules.specs.Lists.{every, count_from};
+ghost use Rattle.std.specs.Prelude.{◌≡◌, ◌<◌, ◌+◌, min, pos};
 ghost use Rattle.rules.specs.Figures.{figure, within, step_count, good_row, row_cost};
-ghost use Rattle.rules.specs.Objectives.{aim_of, larger};
-ghost use Rattle.costs.specs.Steps.{good_step};
+ghost use Rattle.rules.specs.Objectives.{aim_of};
+ghost use Rattle.costs.specs.Aims.{objective_of};
+ghost use Rattle.costs.specs.Steps.{rises, good_step};
 ghost use Rattle.costs.specs.Held.{held};
 
+// A row of the table.
+#[derive(Clone, Copy, Debug, PartialEq, Eq)]
+enum Aim {
+    Lateness,
+    Weighted,
+    Summed,
+    Largest,
+}
+
+impl Aim {
+    // The row of an objective's number. The rules give every number one (docs/DECISIONS.md, 4), so the public functions take numbers: an enum has fewer.
+    #[tactic(auto, unfolding(rules::specs::Objectives::aim_of))]
+    fn of(objective: u32) -> Aim
+        ensures { aim_of objective ≡ objective_of result }
+    {
+        match objective {
+            1 => Aim::Lateness,
+            2 => Aim::Weighted,
+            3 => Aim::Summed,
+            _ => Aim::Largest,
+        }
+    }
+}
+
 // Whether trains of one station leave in list order, as those with rows do.
-#[tactic(auto, using(crate::proofs::Table::listed_by))]
+#[tactic(auto, unfolding(rules::specs::Objectives::lateness, rules::specs::Objectives::weighted, rules::specs::Objectives::by_rows))]
 pub fn listed(objective: u32) -> bool
     ensures { result ≡ (aim_of objective).listed }
 {
-    (objective != 1) & (objective != 2)
+    matches!(Aim::of(objective), Aim::Summed | Aim::Largest)
 }
 
 // The numbers a train.
@@ -39,149 +62,127 @@ pub fn most(objective: u32) -> usize
 fn figure(x: &[i32], k: usize) -> i32
     ensures { result ≡ figure x.now k }
 {
-    if k < x.len() { x[k] } else { 0 }
+    x.get(k).copied().unwrap_or(0)
 }
 
-// Whether a number is from the least to the most.
+// Whether a number is from the least to the most. A function of its own: written into a closure, `contains` is not proved.
 #[tactic(auto, unfolding(rules::specs::Figures::within))]
 fn within(least: i32, most: i32, z: i32) -> bool
     ensures { result ≡ within least most z }
 {
-    if least <= z { z <= most } else { false }
+    (least..=most).contains(&z)
 }
 
-// How many steps of a row are used, by its step count.
-fn steps_used(count: i32) -> usize
-    ensures { result ≡ min (step_count count) 8 }
-{
-    if count < 0 {
-        return 0;
-    }
-    if 8 < count {
-        return 8;
-    }
-    count as usize
-}
+// A train's figures as a row: the step count, eight starts, eight costs.
+#[derive(Clone, Copy, Debug)]
+struct Row<'a>(&'a [i32]);
 
-// Whether the step after k others keeps the rule: a used one rises from the one before, any other is 0.
-fn good_step(x: &[i32], used: usize, k: usize) -> bool
-    requires { k < 8 }
-    ensures { result ≡ good_step x.now used k }
-{
-    let start = figure(x, 1 + k);
-    let cost = figure(x, 9 + k);
-    if k < used {
-        (figure(x, k) < start)
-            & (start <= 1000000)
-            & within(0, 1000000, cost)
-            & (figure(x, 8 + k) <= cost)
-    } else {
-        within(0, 0, start) & within(0, 0, cost)
+impl<'a> Row<'a> {
+    // How many steps are used, by the step count, which the clamp leaves for the cast to keep.
+    fn used(self) -> usize
+        ensures { result ≡ min (step_count (figure self.entry.0.now 0)) 8 }
+    {
+        figure(self.0, 0).clamp(0, 8) as usize
     }
-}
 
-// Whether the seven steps after the first keep the rule.
-#[tactic(auto, using(crate::proofs::Stretches::every_next))]
-fn good_steps(x: &[i32], used: usize) -> bool
-    ensures { result ≡ every (good_step x.now used) (count_from 1 7) }
-{
-    for k in 1..8 {
-        if !good_step(x, used, k) {
-            return false;
+    // The start of the step after k others: an arrival from it on pays the step's cost.
+    fn start(self, k: usize) -> i32
+        requires { k < 8 }
+        ensures { result ≡ figure self.entry.0.now (1 + k) }
+    {
+        figure(self.0, 1 + k)
+    }
+
+    // The cost of the step after k others.
+    fn cost(self, k: usize) -> i32
+        requires { k < 8 }
+        ensures { result ≡ figure self.entry.0.now (9 + k) }
+    {
+        figure(self.0, 9 + k)
+    }
+
+    // Whether the step after k others starts after the one before it and costs no less; the first has none before it.
+    fn rises(self, k: usize) -> bool
+        requires { k < 8 }
+        ensures { result ≡ rises self.entry.0.now k }
+    {
+        if k == 0 {
+            return true;
+        }
+        (self.start(k - 1) < self.start(k)) & (self.cost(k - 1) <= self.cost(k))
+    }
+
+    // Whether the step after k others keeps the rule: a used one is within bounds and rises, any other is 0.
+    #[tactic(auto, using(crate::proofs::Ranges::zero_bits))]
+    fn is_good_step(self, used: usize, k: usize) -> bool
+        requires { k < 8 }
+        ensures { result ≡ good_step self.entry.0.now used k }
+    {
+        let start = self.start(k);
+        let cost = self.cost(k);
+        if k < used {
+            (start <= 1000000) & within(0, 1000000, cost) & self.rises(k)
+        } else {
+            (start == 0) & (cost == 0)
         }
     }
-    true
-}
 
-// The rule of a row: its step count, its first step, which starts at 0, and the others.
-fn good_row(x: &[i32]) -> bool
-    ensures { result ≡ good_row x.now }
-{
-    let count = figure(x, 0);
-    within(1, 8, count)
-        & within(0, 0, figure(x, 1))
-        & within(0, 1000000, figure(x, 9))
-        & good_steps(x, steps_used(count))
+    // The rule of a row: its step count, its first start and its eight steps.
+    fn is_good(self) -> bool
+        ensures { result ≡ good_row self.entry.0.now }
+    {
+        let used = self.used();
+        within(1, 8, figure(self.0, 0))
+            & (self.start(0) == 0)
+            & (0..8).all(|k| self.is_good_step(used, k))
+    }
+
+    // The cost of the last used step whose start is not after the arrival.
+    // A loop, since the library says nothing of what a range turned round yields.
+    #[tactic(auto, using(crate::proofs::Rows::row_cost_so_far, crate::proofs::Rows::so_far_more), unfolding(crate::proofs::Rows::so_far))]
+    fn cost_at(self, arrival: u32) -> i32
+        ensures { result ≡ row_cost self.entry.0.now arrival }
+    {
+        for k in (0..self.used()).rev() {
+            if i64::from(self.start(k)) <= i64::from(arrival) {
+                return self.cost(k);
+            }
+        }
+        0
+    }
 }
 
 // Whether a train's figures keep their rule.
+#[tactic(auto, unfolding(rules::specs::Objectives::lateness, rules::specs::Objectives::weighted, rules::specs::Objectives::by_rows))]
 pub fn good(objective: u32, figures: &[i32]) -> bool
     ensures { result ≡ (aim_of objective).good figures.now }
 {
-    if objective == 1 {
-        return within(-1000000, 1000000, figure(figures, 0));
+    match Aim::of(objective) {
+        Aim::Lateness => within(-1000000, 1000000, figure(figures, 0)),
+        Aim::Weighted => within(0, 10000, figure(figures, 0)),
+        Aim::Summed | Aim::Largest => Row(figures).is_good(),
     }
-    if objective == 2 {
-        return within(0, 10000, figure(figures, 0));
-    }
-    good_row(figures)
-}
-
-// Whether a start is not after the arrival.
-fn started(start: i32, arrival: u32) -> bool
-    ensures { result ≡ le_z start (pos arrival) }
-{
-    start as i64 <= arrival as i64
-}
-
-// The cost of the last used step whose start is not after the arrival.
-#[tactic(auto, using(crate::proofs::Rows::row_cost_so_far, crate::proofs::Rows::so_far_before))]
-fn row_cost(x: &[i32], arrival: u32) -> i32
-    ensures { result ≡ row_cost x.now arrival }
-{
-    let mut k = steps_used(figure(x, 0));
-    while 0 < k {
-        if started(figure(x, k), arrival) {
-            return figure(x, 8 + k);
-        }
-        k -= 1;
-    }
-    0
 }
 
 // What a train costs that arrives at a second.
+#[tactic(auto, unfolding(rules::specs::Objectives::lateness, rules::specs::Objectives::weighted, rules::specs::Objectives::by_rows))]
 pub fn cost(objective: u32, figures: &[i32], arrival: u32) -> i64
     ensures { result ≡ (aim_of objective).cost figures.now arrival }
 {
-    if objective == 1 {
-        return arrival as i64 - figure(figures, 0) as i64;
+    match Aim::of(objective) {
+        Aim::Lateness => i64::from(arrival) - i64::from(figure(figures, 0)),
+        Aim::Weighted => i64::from(figure(figures, 0)) * i64::from(arrival),
+        Aim::Summed | Aim::Largest => i64::from(Row(figures).cost_at(arrival)),
     }
-    if objective == 2 {
-        return figure(figures, 0) as i64 * arrival as i64;
-    }
-    row_cost(figures, arrival) as i64
-}
-
-// The larger of two costs.
-#[tactic(auto, unfolding(rules::specs::Objectives::larger))]
-fn larger(a: i64, b: i64) -> i64
-    ensures { result ≡ larger a b }
-{
-    if a <= b { b } else { a }
-}
-
-// The sum of two costs, held to 64 bits.
-fn sum(a: i64, b: i64) -> i64
-    ensures { result ≡ held (a +ℤ b) }
-{
-    if b < 0 {
-        if a < i64::MIN - b {
-            return i64::MIN;
-        }
-        return a + b;
-    }
-    if i64::MAX - b < a {
-        return i64::MAX;
-    }
-    a + b
 }
 
 // Two costs as one: their sum, held to 64 bits, or the larger.
+#[tactic(auto, unfolding(rules::specs::Objectives::lateness, rules::specs::Objectives::weighted, rules::specs::Objectives::by_rows, rules::specs::Objectives::larger))]
 pub fn joined(objective: u32, a: i64, b: i64) -> i64
     ensures { result ≡ held ((aim_of objective).joined a b) }
 {
-    if (objective == 2) | (objective == 3) {
-        return sum(a, b);
+    match Aim::of(objective) {
+        Aim::Weighted | Aim::Summed => a.saturating_add(b),
+        Aim::Lateness | Aim::Largest => a.max(b),
     }
-    larger(a, b)
 }

@@ -2,40 +2,45 @@
 // One line an objective: how many sections were compared, and how many differences were found.
 #![tactic(auto)]
 
+use objective::Objective;
+use random::Random;
 use std::io;
 
 mod checks;
+mod objective;
 mod orders;
 mod random;
+mod rows;
 mod safety;
 mod schedules;
+mod search;
 mod sections;
-mod strings;
-mod tally;
+mod trains;
 mod values;
 mod waiting;
 
-// Writes an objective's line.
-fn print_line(rt: &impl Print, objective: u32, compared: u32, differences: u64) -> io::Result<()> {
-    println!(rt; "objective {objective}: {compared} sections, {differences} differences")
-}
+// How many sections of an objective are compared.
+const SECTIONS: u32 = 300;
 
-// Compares 300 sections of an objective and writes its line.
-fn report(rt: &impl Print, objective: u32, state: &mut u64) -> io::Result<()> {
-    let mut compared: u32 = 0;
-    let mut differences: u64 = 0;
-    while compared < 300 {
-        let more = checks::of_random_section(objective, state);
-        differences = tally::together(differences, more);
-        compared += 1;
+// Compares sections of an objective and writes its line.
+fn report(
+    rt: &(impl Print + AllocGlobal),
+    objective: Objective,
+    random: &mut Random,
+) -> io::Result<()> {
+    let mut differences = 0u64;
+    for _ in 0..SECTIONS {
+        let more = checks::of_random_section(rt.alloc(), objective, random)?;
+        differences = differences.saturating_add(more);
     }
-    print_line(rt, objective, compared, differences)
+    let number = objective as u32;
+    println!(rt; "objective {number}: {SECTIONS} sections, {differences} differences")
 }
 
 fn main(rt: HostRuntime) -> io::Result<()> {
-    let mut state: u64 = 88172645463325252;
-    report(&rt, 1, &mut state)?;
-    report(&rt, 2, &mut state)?;
-    report(&rt, 3, &mut state)?;
-    report(&rt, 4, &mut state)
+    let mut random = Random::new();
+    for objective in Objective::ALL {
+        report(&rt, objective, &mut random)?;
+    }
+    Ok(())
 }

@@ -1,45 +1,34 @@
 // The rules of a safe schedule, tried on every pair of trains.
 use crate::sections::Section;
+use crate::trains::Train;
 
-// What `conflict` gives where there is none.
-pub const SAFE: usize = 36;
-
-// The seconds that two trains' departures must differ by.
-pub fn gap(section: Section, train: usize, other: usize) -> u32 {
-    if section.same_station(train, other) {
-        section.timing.headway
-    } else {
-        section.timing.running
-    }
-}
-
-// Whether a train and one with a greater number break a rule: R1 or R2 by too small a gap, R3 by leaving the wrong way round.
-fn breaks(section: Section, train: usize, departure: u32, other: usize, departed: u32) -> bool {
-    if departure < departed {
-        return departed - departure < gap(section, train, other);
-    }
-    if section.has_rows() & section.same_station(train, other) {
-        return true;
-    }
-    departure - departed < gap(section, train, other)
-}
-
-// The first pair of trains that break a rule, as 6 times the first number and the second; or `SAFE`.
-pub fn conflict(section: Section, departures: &[u32; 6]) -> usize {
-    for pair in 0..36 {
-        let first = pair / 6;
-        let second = pair % 6;
-        if (first < second) & (second < section.trains) {
-            if breaks(
-                section,
-                first,
-                departures[first],
-                second,
-                departures[second],
-            ) {
-                return pair;
-            }
+impl Section {
+    // The seconds that two trains' departures must differ by.
+    pub fn gap(&self, train: &Train, other: &Train) -> u32 {
+        if train.station == other.station {
+            self.timing.headway
+        } else {
+            self.timing.running
         }
     }
-    SAFE
+
+    // Whether a train and one with a greater number break a rule: R1 or R2 by too small a gap, R3 by leaving the wrong way round.
+    fn breaks(&self, first: &Train, departure: u32, second: &Train, departed: u32) -> bool {
+        let too_near = departure.abs_diff(departed) < self.gap(first, second);
+        let ordered = self.objective.has_rows() && first.station == second.station;
+        too_near || (ordered && departed <= departure)
+    }
+
+    // The numbers of the first pair of trains that break a rule, where there is one.
+    pub fn conflict(&self, departures: &[u32]) -> Option<(u32, u32)> {
+        for (first, departure) in self.trains.iter().zip(departures) {
+            let second = self.trains.iter().zip(departures).find(|(second, departed)| {
+                first.number < second.number && self.breaks(first, *departure, second, **departed)
+            });
+            if let Some((second, _)) = second {
+                return Some((first.number, second.number));
+            }
+        }
+        None
+    }
 }

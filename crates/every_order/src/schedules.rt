@@ -1,45 +1,43 @@
-// The schedule of an order: train numbers as they leave, and 6 in each place after the last train.
-ghost use Rattle.std.specs.Prelude.{◌<◌};
-
-use crate::safety;
+// The schedule of an order, which has the trains as they leave. Departures stay below some hundred seconds, so no sum saturates.
 use crate::sections::Section;
+use crate::trains::Train;
+use std::alloc::{AllocError, Global};
 
-// A train's departure. No train has number 6.
-fn departure(departures: &[u32; 6], train: usize) -> u32 {
-    if train < 6 { departures[train] } else { 0 }
+// A train that leaves, and when.
+#[derive(Clone, Copy)]
+struct Run<'a> {
+    train: &'a Train,
+    departure: u32,
 }
 
-// The first second at which the train at a place of the order may leave, by every train before it.
-// Departures stay below some hundred seconds, so no sum wraps.
-fn earliest(section: Section, order: &[usize; 6], departures: &[u32; 6], place: usize) -> u32
-    requires { place < 6 }
-{
-    let train = order[place];
-    let mut earliest = 0;
-    for before in 0..place {
-        let other = order[before];
-        let free = departure(departures, other).wrapping_add(safety::gap(section, other, train));
-        if earliest < free {
-            earliest = free;
-        }
+impl Section {
+    // The first second at which a train may leave, by every train before it.
+    fn earliest(&self, before: &[Run], train: &Train) -> u32 {
+        before
+            .iter()
+            .map(|run| run.departure.saturating_add(self.gap(run.train, train)))
+            .max()
+            .unwrap_or(0)
     }
-    earliest
-}
 
-// The departures where each train waits so many seconds longer than it must.
-pub fn scheduled(section: Section, order: &[usize; 6], waits: &[u32; 6]) -> [u32; 6] {
-    let mut departures: [u32; 6] = [0; 6];
-    for place in 0..6 {
-        let train = order[place];
-        if train < 6 {
-            let free = earliest(section, order, &departures, place);
-            departures[train] = free.wrapping_add(waits[place]);
+    // The departures in number order where each train of an order waits so many seconds longer than it must.
+    pub fn scheduled(
+        &self,
+        alloc: Global,
+        order: &[&Train],
+        waits: &[u32],
+    ) -> Result<Vec<u32>, AllocError> {
+        let mut runs = Vec::new(alloc);
+        for (train, wait) in order.iter().copied().zip(waits) {
+            let departure = self.earliest(&runs, train).saturating_add(*wait);
+            runs.push(Run { train, departure })?;
         }
+        runs.sort_unstable_by_key(|run| run.train.number);
+        runs.iter().map(|run| run.departure).collect(alloc)
     }
-    departures
-}
 
-// The departures where no train waits longer than it must.
-pub fn prompt(section: Section, order: &[usize; 6]) -> [u32; 6] {
-    scheduled(section, order, &[0; 6])
+    // The departures where no train waits longer than it must.
+    pub fn prompt(&self, alloc: Global, order: &[&Train]) -> Result<Vec<u32>, AllocError> {
+        self.scheduled(alloc, order, &[0; 6])
+    }
 }

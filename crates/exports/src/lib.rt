@@ -1,29 +1,20 @@
 // What a program in C or Rust links, which `exports_c` gives its C names: a section file's text to its answer's, the planner and the judge.
 #![tactic(auto)]
 
-ghost use Rattle.std.specs.Prelude.{◌≡◌, min, length, take};
+ghost use Rattle.std.specs.Prelude.{◌≡◌, length, take};
 ghost use Rattle.rules.specs.Answers.{says, planner_answers, planner_leaves, judge_answers};
 ghost use Rattle.section_file.specs.Answer.{answer};
 ghost use Rattle.text.specs.Over.{over};
 ghost use Rattle.exports.specs.Told.{called, Tells};
 
-use rules::{Answer, Outcome, Timing};
-
-// The smaller of two lengths.
-fn smaller(a: usize, b: usize) -> usize
-    ensures { result ≡ min a b }
-{
-    if a < b { a } else { b }
-}
+use rules::{Answer, Timing};
 
 // Copies bytes over the start of `out`, as many as it holds.
 fn copy_over(bytes: &[u8], out: &mut [u8])
     ensures { out.new ≡ over (take (length out.old) bytes.now) out.old }
 {
-    let n = smaller(bytes.len(), out.len());
-    for k in 0..n {
-        out[k] = bytes[k];
-    }
+    let n = out.len().min(bytes.len());
+    out[..n].copy_from_slice(&bytes[..n]);
 }
 
 // Writes an answer's value and places, and gives its refusal number.
@@ -31,23 +22,18 @@ fn copy_over(bytes: &[u8], out: &mut [u8])
 fn tell(answer: Answer, value: &mut i64, first: &mut u32, second: &mut u32) -> u32
     ensures { Tells result value.new first.new second.new (says answer) }
 {
-    let outcome = answer.outcome;
-    match outcome {
-        Outcome::Value(worth) => {
+    match answer.outcome {
+        Ok(worth) => {
             *value = worth;
             *first = 0;
             *second = 0;
             0
         }
-        Outcome::Refused {
-            number,
-            first: one,
-            second: other,
-        } => {
+        Err(refusal) => {
             *value = 0;
-            *first = one;
-            *second = other;
-            number
+            *first = refusal.first;
+            *second = refusal.second;
+            refusal.number
         }
     }
 }
@@ -57,11 +43,10 @@ pub fn pulpmitten_answer_text(text: &[u8], out: &mut [u8]) -> usize
     ensures count { result ≡ length (answer text.now) }
     ensures written { out.new ≡ over (take (length out.old) (answer text.now)) out.old }
 {
-    let printed = section_file::answer_text(text);
-    let bytes = printed.bytes;
-    let count = printed.count;
-    copy_over(&bytes[..count], out);
-    count
+    let page = section_file::answer_text(text);
+    let answer = page.as_bytes();
+    copy_over(answer, out);
+    answer.len()
 }
 
 // Plans a section as `planner::plan` does.

@@ -1,55 +1,51 @@
--- The first pair of numbers that passes a test, by a search for the first number and one for the second.
-use mathlib.Core.Bool.{Bool, true, false}
+-- The pairs of numbers that pass a test, by the first number of the first of them, and by its second.
+use mathlib.Core.Bool.{Bool}
 use mathlib.Core.List.{List, [], ◌++◌, map}
+use mathlib.Core.Logic.{by_cases}
 use mathlib.Core.Path.{◌≡◌, refl}
-use Prim.Native.Nat.{ℕ, zero, suc, ◌+◌, ◌-◌, ◌<◌}
+use Prim.Native.Nat.{ℕ, zero, suc, ◌+◌, ◌≤◌, ◌<◌}
+use native.Mathlib.Decide.{ℕ_discrete}
 use native.Mathlib.Omega.{arith}
-use borrow.Author.Tests.{ltb-true, ltb-false}
-use lib.Dec.{ltb}
+use Rattle.std.specs.Prelude.{Some}
 use Rattle.rules.specs.Lists.{those, pairs, count_from}
 use Rattle.rules.proofs.Lists.{those_append}
-use Rattle.refusals.specs.Seek.{seek}
-use Rattle.refusals.proofs.Seek.{seek_within, Begins, begins_append, none_pass, first_passes}
+use Rattle.refusals.specs.First.{NonePass, IsFirst}
+use Rattle.refusals.proofs.First.{Begins, begins_append, none_pass, first_passes}
 
-module _ (test : ℕ → ℕ → Bool) (end : ℕ) where
-  -- the first number after i that passes with it, or the end; and whether there is one
-  abbrev after : ℕ → ℕ
-  after i = seek (test i) (suc i) (end - suc i)
-
-  abbrev some_after : ℕ → Bool
-  some_after i = ltb (after i) end
+module _ (test : ℕ → ℕ → Bool) where
+  abbrev both : ℕ × ℕ → Bool
+  both pair = test pair.0 pair.1
 
   abbrev passing : ℕ → ℕ → List (ℕ × ℕ)
-  passing k n = those (λ pair. test pair.0 pair.1) (pairs (count_from k n))
+  passing k n = those both (pairs (count_from k n))
 
-  -- the pairs with k
-  abbrev with_first : ℕ → ℕ → List (ℕ × ℕ)
-  with_first k n = those (λ pair. test pair.0 pair.1) (map (λ j. (k, j)) (count_from (suc k) n))
+  passing_next : (k n : ℕ) → passing k (suc n) ≡ those both (map (λ j. (k, j)) (count_from (suc k) n)) ++ passing (suc k) n
+  passing_next k n = those_append both (map (λ j. (k, j)) (count_from (suc k) n)) (pairs (count_from (suc k) n))
 
-  passing_next : (k n : ℕ) → passing k (suc n) ≡ with_first k n ++ passing (suc k) n
-  passing_next k n = those_append _ (map (λ j. (k, j)) (count_from (suc k) n)) (pairs (count_from (suc k) n))
+  with_none : (k n end : ℕ) → k + suc n ≡ end → NonePass (test k) (suc k) end → those both (map (λ j. (k, j)) (count_from (suc k) n)) ≡ []
+  with_none k n end l none = none_pass both (λ j. (k, j)) (suc k) n (λ i l' m. none i l' (omega arith))
 
-  with_none : (k n : ℕ) → k + suc n ≡ end → some_after k ≡ false → with_first k n ≡ []
-  with_none k n l f =
-      let left : end - suc k ≡ n = omega arith in
-      none_pass (λ pair. test pair.0 pair.1) (λ j. (k, j)) (suc k) n
-      (omega (arith, seek_within (test k) (suc k) n, ltb-false (seek (test k) (suc k) n) end (rw left at f)))
+  with_first : (k n end j : ℕ) → k + suc n ≡ end → IsFirst (test k) (suc k) end (Some j) → Begins (k, j) (passing k (suc n))
+  with_first k n end j l (from, before, passes, none) =
+      rw (passing_next k n)
+      (begins_append _ (first_passes both (λ i. (k, i)) (suc k) n j from (omega arith) passes none))
 
-  with_some : (k n : ℕ) → k + suc n ≡ end → some_after k ≡ true → Begins (k, after k) (with_first k n)
-  with_some k n l f =
-      let left : end - suc k ≡ n = omega arith in
-      rw left (first_passes (λ pair. test pair.0 pair.1) (λ j. (k, j)) (suc k) n (omega (arith, ltb-true (seek (test k) (suc k) n) end (rw left at f))))
+  -- no number passes with a later one
+  pub no_pair : (k n end : ℕ) → k + n ≡ end → ((i : ℕ) → k ≤ i → i < end → NonePass (test i) (suc i) end) → passing k n ≡ []
+  no_pair k zero end l none = refl
+  no_pair k (suc n) end l none =
+      rw (passing_next k n, with_none k n end l (none k (omega arith) (omega arith)))
+      (no_pair (suc k) n end (omega arith) (λ i l' m. none i (omega arith) m))
 
-  -- the search ends and no pair passes, or it has the first number of the first pair that does
-  pub data Sought (k n : ℕ) : Type 0 where
-    nothing : seek some_after k n ≡ end → passing k n ≡ [] → Sought k n
-    something : seek some_after k n < end → Begins (seek some_after k n, after (seek some_after k n)) (passing k n) → Sought k n
-
-  next : (k n : ℕ) → k + suc n ≡ end → (b : Bool) → some_after k ≡ b → Sought (suc k) n → Sought k (suc n)
-  next k n l true f s = something (rw f (omega arith)) (rw (passing_next k n, f) (begins_append _ (with_some k n l f)))
-  next k n l false f (nothing e p) = nothing (rw f e) (rw (passing_next k n, with_none k n l f) p)
-  next k n l false f (something h p) = something (rw f h) (rw (passing_next k n, with_none k n l f, f) p)
-
-  pub sought : (k n : ℕ) → k + n ≡ end → Sought k n
-  sought k zero l = nothing (omega arith) refl
-  sought k (suc n) l = next k n l (some_after k) refl (sought (suc k) n (omega arith))
+  -- i passes with j, and with none between them; no number before i passes with a later one
+  pub first_pair :
+      (k n end i j : ℕ) → k + n ≡ end → k ≤ i → i < end → IsFirst (test i) (suc i) end (Some j) →
+      ((i' : ℕ) → k ≤ i' → i' < i → NonePass (test i') (suc i') end) →
+      Begins (i, j) (passing k n)
+  first_pair k zero end i j l from before found none = absurd (omega arith)
+  first_pair k (suc n) end i j l from before found none =
+      by_cases (ℕ_discrete k i)
+      (λ e. rw (← e) (with_first k n end j l (rw (← e) at found)))
+      (λ other.
+      rw (passing_next k n, with_none k n end l (none k (omega arith) (omega arith)))
+      (first_pair (suc k) n end i j (omega arith) (omega arith) before found (λ i' l' m. none i' (omega arith) m)))

@@ -5,17 +5,16 @@ use Prim.Native.Nat.{ℕ, suc, ◌+◌, ◌-◌, ◌≤◌, ◌<◌}
 use native.Mathlib.Numerals.{add-one}
 use native.Mathlib.Omega.{arith}
 use lib.IntN.{ℤ}
-use lib.ListN.{get_or}
 use Rattle.rules.specs.Lists.{count_from}
 use Rattle.rules.specs.Trains.{Section, aim, count}
 use Rattle.rules.specs.Value.{cost_of, join_on, join_all, value}
 use Rattle.rules.proofs.Trains.{runs_nth}
-use Rattle.judge.specs.Runs.{run_of}
+use Rattle.judge.specs.Recorded.{run}
 
 module _ (S : Section) (departures : List ℕ) where
   -- the cost of the train with this number
   abbrev pub cost_at : ℕ → ℤ
-  cost_at k = cost_of S (run_of S k (get_or departures k 0))
+  cost_at k = cost_of S (run S departures k)
 
   -- the value, from the total of the trains before k
   abbrev pub from : ℤ → ℕ → ℤ

@@ -1,4 +1,3 @@
 -- What the judge's searches look for, and what its total asks, in the rules' terms.
 -- The promise of `judge` cites the rules alone.
-pub mod Conflicts
-pub mod Runs
+pub mod Recorded

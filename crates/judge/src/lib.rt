@@ -2,43 +2,56 @@
 // Everything but `judge` is private.
 #![tactic(auto)]
 
-ghost use Rattle.std.specs.Prelude.{[], ◌≡◌, length};
-ghost use Rattle.rules.specs.Refusals.{refusals};
+ghost use Rattle.std.specs.Prelude.{◌≡◌, length};
 ghost use Rattle.rules.specs.Answers.{says, judge_answers};
-ghost use Rattle.rules.specs.Trains.{asked};
+ghost use Rattle.rules.specs.Trains.{asked, told};
+ghost use Rattle.refusals.specs.First.{IsFirst};
+ghost use Rattle.refusals.specs.Reasons.{outcome_tells};
+ghost use Rattle.judge.specs.Recorded.{late};
 
-use rules::{Answer, Outcome, Timing};
+use refusals::Reason;
+use rules::{Answer, Section, Timing};
 
-mod conflicts;
-mod total;
+mod recorded;
 
-// The judge's answer on a call of which nothing is refused so far: refusals 8 and 9, or the value.
-fn judged(objective: u32, timing: Timing, one: &[i32], two: &[i32], departures: &[u32]) -> Answer
-    requires { refusals (asked objective timing one.now two.now) (length departures.now) ≡ [] }
-    ensures { says result ≡ judge_answers (asked objective timing one.now two.now) departures.now }
+use recorded::Recorded;
+
+// The first train whose departure is above 10,000,000.
+#[tactic(auto, unfolding(crate::specs::Recorded::late))]
+fn first_late(departures: &[u32]) -> Option<usize>
+    ensures { IsFirst (late departures.now) 0 (length departures.now) result }
 {
-    let late = conflicts::first_late(departures);
-    if late < departures.len() {
-        return refusals::refused(8, late as u32, 0);
+    departures
+        .iter()
+        .position(|&departure| 10000000 < departure)
+}
+
+// The value of the departures, or why they are refused.
+// The casts keep a number below 96; `try_from` would have an error that cannot happen.
+#[tactic(auto, using(crate::proofs::Accepted::counted, crate::proofs::Accepted::judged, crate::proofs::Verdicts::call_refused, crate::proofs::Verdicts::late_refused, crate::proofs::Verdicts::conflict_refused, crate::proofs::Verdicts::nothing_left))]
+fn judged(section: Section, departures: &[u32]) -> Result<i64, Reason>
+    ensures { outcome_tells result ≡ judge_answers (told section.entry) departures.now }
+{
+    refusals::refusal(section, departures.len())?;
+    if let Some(late) = first_late(departures) {
+        return Err(Reason::LateDeparture(late as u32));
     }
-    let n = one.len() / costs::numbers(objective);
-    let pair = conflicts::first_conflict(costs::listed(objective), timing, n, departures);
-    if pair.first < departures.len() {
-        return refusals::refused(9, pair.first as u32, pair.second as u32);
+    let recorded = Recorded::new(section, departures);
+    if let Some((first, second)) = recorded.first_conflict() {
+        return Err(Reason::Conflict(first as u32, second as u32));
     }
-    Answer {
-        outcome: Outcome::Value(total::total(objective, timing, one, two, n, departures)),
-    }
+    Ok(recorded.total())
 }
 
 // The value of the recorded departures, in train number order; or the first refusal that applies.
 pub fn judge(objective: u32, timing: Timing, one: &[i32], two: &[i32], departures: &[u32]) -> Answer
     ensures { says result ≡ judge_answers (asked objective timing one.now two.now) departures.now }
 {
-    let call = refusals::refusal(objective, timing, one, two, departures.len());
-    let outcome = call.outcome;
-    let Outcome::Value(_) = outcome else {
-        return call;
+    let section = Section {
+        objective,
+        timing,
+        one,
+        two,
     };
-    judged(objective, timing, one, two, departures)
+    refusals::answered(judged(section, departures))
 }

@@ -1,12 +1,9 @@
 -- Before anything is counted: the call's terms, its stations in order, and tables that are right up to place 0.
-use mathlib.Core.List.{List, []}
-use mathlib.Core.Path.{◌≡◌, refl, ◌∙◌, ap}
-use Prim.Native.Nat.{ℕ, ◌+◌, ◌/◌, ◌≤◌}
-use native.Mathlib.Omega.{arith}
-use lib.IntN.{ℤ}
-use lib.ListN.{length, replicate, length-replicate, get_or-replicate}
+use Rattle.std.proofs.Common.{List, [], ◌≡◌, refl, ◌∙◌, ap, ℕ, ◌+◌, ◌/◌, ◌≤◌, arith, ℤ, length, replicate}
+use lib.ListN.{length-replicate, get_or-replicate}
 use Rattle.rules.specs.declared.Timing.{Timing}
-use Rattle.rules.specs.Line.{Station, one, two}
+use Rattle.rules.specs.declared.Station.{Station}
+use Rattle.rules.specs.declared.Station.TheVariants.{One as one, Two as two}
 use Rattle.rules.specs.Objectives.{aim_of}
 use Rattle.rules.specs.Trains.{Section, asked, aim, list_at, count_at, count}
 use Rattle.rules.specs.Refusals.{refusals}

@@ -1,20 +1,12 @@
 -- A cell that is chosen from right tables is right, and once it is stored the tables are right one place further.
-use mathlib.Core.Bool.{Bool, true, false, true≢false}
-use mathlib.Core.List.{List, [], ◌++◌, map}
+use Rattle.std.proofs.Common.{true, false, true≢false, List, [], ◌++◌, map, ◌≡◌, refl, sym, ◌∙◌, ap, ap₂, subst, ℕ, ◌+◌, ◌-◌, ◌*◌, ◌≤◌, ◌<◌, mul-le-mul_left, arith, eq-eqb, ne_eqb, T, ℤ, pos, get_or, w64, SFits}
 use mathlib.Core.Logic.{by_cases}
-use mathlib.Core.Path.{◌≡◌, refl, sym, ◌∙◌, ap, ap₂, subst}
-use Prim.Native.Nat.{ℕ, ◌+◌, ◌-◌, ◌*◌, ◌≤◌, ◌<◌}
-use native.Mathlib.Nat.{mul-le-mul_left}
 use native.Mathlib.Decide.{ℕ_discrete}
-use native.Mathlib.Omega.{arith}
-use borrow.Author.Tests.{eq-eqb, ne_eqb}
-use lib.Dec.{T}
-use lib.IntN.{ℤ, pos}
-use lib.ListN.{get_or}
-use mir.Syntax.{w64}
-use mir.Val.{SFits}
+use Rattle.std.proofs.lemmas.Option.{none-some}
 use Rattle.rules.specs.declared.Timing.{Timing}
-use Rattle.rules.specs.Line.{Station, one, two, good_timing}
+use Rattle.rules.specs.declared.Station.{Station}
+use Rattle.rules.specs.declared.Station.TheVariants.{One as one, Two as two}
+use Rattle.rules.specs.Line.{good_timing}
 use Rattle.rules.specs.Figures.{within}
 use Rattle.rules.specs.Objectives.{aim_of}
 use Rattle.rules.specs.Trains.{Section, aim, count_at}
@@ -22,9 +14,10 @@ use Rattle.rules.proofs.Line.{gap_most}
 use Rattle.best.proofs.Accepted.{Accepted}
 use Rattle.costs.proofs.Bounds.{mag_within}
 use Rattle.planner.specs.declared.clock.Terms.{Terms}
+use Rattle.planner.specs.Clock.{second_of, cell_clock}
 use Rattle.planner.specs.Trains.{next_figures}
 use Rattle.planner.specs.Rests.{Table, entry, side, best_by, Chooses}
-use Rattle.planner.specs.Cells.{slope, Slopes, rises, rate, Rates, cell_clock, after, Pairs, gone_of, seconds, Changes}
+use Rattle.planner.specs.Cells.{slope, Slopes, rises, rate, Rates, Pairs, gone_of, seconds, Changes}
 use Rattle.planner.specs.Day.{terms_of, left, turn, figures_left, earliest, rest, at, Running, Right, Tables}
 use Rattle.planner.specs.Planning.{asked_by, Planning}
 use Rattle.planner.proofs.Placing.{ones_are, twos_are, twos_most, first_next, second_next}
@@ -45,20 +38,27 @@ module _ (S : Section) (A : Accepted S) {counts changes : Table} (n m : ℕ) (ta
     (n_few : n ≤ count_at S one) (m_few : m ≤ count_at S two) (x y : List ℤ)
     (first : 0 < n → x ≡ (turn S one n).figures) (second : 0 < m → y ≡ (turn S two m).figures) where
   -- a clock where so many trains are left
-  cell_running : (b : Bool) (t k : ℕ) → t ≤ gone_of (terms_of S) n m * 10000 → k ≤ gone_of (terms_of S) n m
+  cell_running : (s : Station) (t k : ℕ) → t ≤ gone_of (terms_of S) n m * 10000 → k ≤ gone_of (terms_of S) n m
       → ((aim S).listed ≡ true → (k < gone_of (terms_of S) n m) × (t ≡ seconds S.timing k (gone_of (terms_of S) n m)))
-      → Running S (after b (cell_clock t k n m))
-  unfolding after cell_clock
-  cell_running b t k soon few told =
-      record { ones_few = n_few; twos_few = m_few; soon = soon; few = few; unbegun = λ e. absurd (true≢false e); told = λ l _. told l }
+      → Running S (cell_clock s t k n m)
+  unfolding cell_clock
+  cell_running s t k soon few told =
+      record {
+        ones_few = n_few;
+        twos_few = m_few;
+        soon = soon;
+        few = few;
+        unbegun = λ e. absurd (none-some _ (sym e));
+        told = λ l last e. rw (← ap second_of e) (told l);
+      }
 
-  module _ (b : Bool) (t k : ℕ) (R : Running S (after b (cell_clock t k n m))) where
-    cell_chooses : Chooses (terms_of S) (after b (cell_clock t k n m)) x y counts changes
-    unfolding after cell_clock
+  module _ (s : Station) (t k : ℕ) (R : Running S (cell_clock s t k n m)) where
+    cell_chooses : Chooses (terms_of S) (cell_clock s t k n m) x y counts changes
+    unfolding cell_clock
     cell_chooses = chooses S A tables _ R (omega arith) first second
 
-    cell_is : best_by (terms_of S) (after b (cell_clock t k n m)) x y counts changes ≡ rest S (at b t n m)
-    unfolding after cell_clock rest earliest
+    cell_is : best_by (terms_of S) (cell_clock s t k n m) x y counts changes ≡ rest S (at s t n m)
+    unfolding cell_clock rest earliest
     cell_is = best_is S A tables _ R (omega arith) first second
 
   -- with this cell right, and those before it still, the tables are right one place further
@@ -75,11 +75,11 @@ module _ (S : Section) (A : Accepted S) {counts changes : Table} (n m : ℕ) (ta
 
   -- objectives 1 and 2
   module _ (free : (aim S).listed ≡ false) where
-    count_running : (b : Bool) → Running S (at b 0 n m)
-    count_running b = cell_running b 0 0 (omega arith) (omega arith) (λ l. absurd (true≢false (sym l ∙ free)))
+    count_running : (s : Station) → Running S (at s 0 n m)
+    count_running s = cell_running s 0 0 (omega arith) (omega arith) (λ l. absurd (true≢false (sym l ∙ free)))
 
-    pub count_chooses : (b : Bool) → Chooses (terms_of S) (at b 0 n m) x y counts changes
-    count_chooses b = cell_chooses b 0 0 (count_running b)
+    pub count_chooses : (s : Station) → Chooses (terms_of S) (at s 0 n m) x y counts changes
+    count_chooses s = cell_chooses s 0 0 (count_running s)
 
     -- one train's slope joined to the rise of those left when it has left
     joined_first : 0 < n → (aim S).joined (slope (aim S) x) (entry counts (n - 1) m 2) ≡ rises (aim S) (figures_left S n m)
@@ -121,7 +121,7 @@ module _ (S : Section) (A : Accepted S) {counts changes : Table} (n m : ℕ) (ta
         }
 
     -- the cell as the code makes it, stored
-    module _ (cell : List ℤ) (pairs : Pairs 1 (λ k b. best_by (terms_of S) (at b 0 n m) x y counts changes) cell)
+    module _ (cell : List ℤ) (pairs : Pairs 1 (λ k s. best_by (terms_of S) (at s 0 n m) x y counts changes) cell)
         (rated : get_or cell 2 (pos 0) ≡ rate S.objective x y n m counts) where
       n_in : n < 49
       n_in = omega (arith, count_few S A one)
@@ -133,7 +133,7 @@ module _ (S : Section) (A : Accepted S) {counts changes : Table} (n m : ℕ) (ta
       unfolding Pairs
       here =
           record {
-            counted = λ _ b. entry_same counts tables.square n m n_in m_in cell (side b) ∙ ap (λ k. get_or cell k (pos 0)) (omega arith) ∙ pairs 0 (omega arith) b ∙ cell_is b 0 0 (count_running b);
+            counted = λ _ s. entry_same counts tables.square n m n_in m_in cell (side s) ∙ ap (λ k. get_or cell k (pos 0)) (omega arith) ∙ pairs 0 (omega arith) s ∙ cell_is s 0 0 (count_running s);
             risen = λ _. entry_same counts tables.square n m n_in m_in cell 2 ∙ rated ∙ rate_is;
             changed = λ l. absurd (true≢false (sym l ∙ free));
           }
@@ -141,7 +141,7 @@ module _ (S : Section) (A : Accepted S) {counts changes : Table} (n m : ℕ) (ta
       earlier : (n' m' : ℕ) → ¬ ((n' ≡ n) × (m' ≡ m)) → Right S counts changes n' m' → Right S (stored counts n m cell) changes n' m'
       earlier n' m' other r =
           record {
-            counted = λ f b. entry_other counts tables.square n m n_in m_in cell n' m' (side b) other ∙ r.counted f b;
+            counted = λ f s. entry_other counts tables.square n m n_in m_in cell n' m' (side s) other ∙ r.counted f s;
             risen = λ f. entry_other counts tables.square n m n_in m_in cell n' m' 2 other ∙ r.risen f;
             changed = r.changed;
           }
@@ -159,8 +159,8 @@ module _ (S : Section) (A : Accepted S) {counts changes : Table} (n m : ℕ) (ta
     abbrev gone : ℕ
     gone = gone_of (terms_of S) n m
 
-    change_running : (b : Bool) (k : ℕ) → k < gone → Running S (after b (cell_clock (seconds S.timing k gone) k n m))
-    change_running b k h = cell_running b _ k (seconds_most S.timing A.timed k gone h) (omega arith) (λ _. (h, refl))
+    change_running : (s : Station) (k : ℕ) → k < gone → Running S (cell_clock s (seconds S.timing k gone) k n m)
+    change_running s k h = cell_running s _ k (seconds_most S.timing A.timed k gone h) (omega arith) (λ _. (h, refl))
 
     pub change_changes : Changes (terms_of S) x y n m counts changes
     unfolding terms_of
@@ -169,10 +169,10 @@ module _ (S : Section) (A : Accepted S) {counts changes : Table} (n m : ℕ) (ta
           timed = A.timed;
           all_few = omega (arith, rows_few S A one listed, rows_few S A two listed);
           few = omega (arith, n_few, m_few);
-          chooses = λ k h b. cell_chooses b _ k (change_running b k h);
+          chooses = λ k h s. cell_chooses s _ k (change_running s k h);
         }
 
-    module _ (cell : List ℤ) (pairs : Pairs gone (λ k b. best_by (terms_of S) (after b (cell_clock (seconds S.timing k gone) k n m)) x y counts changes) cell) where
+    module _ (cell : List ℤ) (pairs : Pairs gone (λ k s. best_by (terms_of S) (cell_clock s (seconds S.timing k gone) k n m) x y counts changes) cell) where
       n_row : n < 13
       n_row = omega (arith, rows_few S A one listed)
 
@@ -185,8 +185,8 @@ module _ (S : Section) (A : Accepted S) {counts changes : Table} (n m : ℕ) (ta
           record {
             counted = λ f. absurd (true≢false (sym listed ∙ f));
             risen = λ f. absurd (true≢false (sym listed ∙ f));
-            changed = λ _ k h b.
-                entry_same changes tables.square' n m n_row m_row cell (2 * k + side b) ∙ pairs k h b ∙ cell_is b _ k (change_running b k h);
+            changed = λ _ k h s.
+                entry_same changes tables.square' n m n_row m_row cell (2 * k + side s) ∙ pairs k h s ∙ cell_is s _ k (change_running s k h);
           }
 
       earlier_changed : (n' m' : ℕ) → ¬ ((n' ≡ n) × (m' ≡ m)) → Right S counts changes n' m' → Right S counts (stored changes n m cell) n' m'
@@ -194,8 +194,8 @@ module _ (S : Section) (A : Accepted S) {counts changes : Table} (n m : ℕ) (ta
           record {
             counted = r.counted;
             risen = r.risen;
-            changed = λ l k h b.
-                entry_other changes tables.square' n m n_row m_row cell n' m' (2 * k + side b) other ∙ r.changed l k h b;
+            changed = λ l k h s.
+                entry_other changes tables.square' n m n_row m_row cell n' m' (2 * k + side s) other ∙ r.changed l k h s;
           }
 
       pub changes_filled : Tables S counts (stored changes n m cell) (n * 49 + m + 1)
@@ -211,14 +211,14 @@ pub record ChangeCell (w : Terms) (list list' : List ℤ) (counts changes : Tabl
   pub asks : Changes w x y n m counts changes
   pub place : (n < 13) × (m < 13)
   pub stored : (cell : List ℤ)
-      → Pairs (gone_of w n m) (λ k b. best_by w (after b (cell_clock (seconds w.timing k (gone_of w n m)) k n m)) x y counts changes) cell
+      → Pairs (gone_of w n m) (λ k s. best_by w (cell_clock s (seconds w.timing k (gone_of w n m)) k n m) x y counts changes) cell
       → Tables (asked_by w list list') counts (stored changes n m cell) (n * 49 + m + 1)
 
 pub record CountCell (w : Terms) (list list' : List ℤ) (counts changes : Table) (n m : ℕ) (x y : List ℤ) : Type 0 where
-  pub asks : ((b : Bool) → Chooses w (at b 0 n m) x y counts changes) × Rates w.objective x y n m counts
+  pub asks : ((s : Station) → Chooses w (at s 0 n m) x y counts changes) × Rates w.objective x y n m counts
   pub place : (n < 49) × (m < 49)
   pub stored : (cell : List ℤ)
-      → Pairs 1 (λ k b. best_by w (at b 0 n m) x y counts changes) cell × (get_or cell 2 (pos 0) ≡ rate w.objective x y n m counts)
+      → Pairs 1 (λ k s. best_by w (at s 0 n m) x y counts changes) cell × (get_or cell 2 (pos 0) ≡ rate w.objective x y n m counts)
       → Tables (asked_by w list list') (stored counts n m cell) changes (n * 49 + m + 1)
 
 -- the same by a call's terms, with the figures that the code has taken
@@ -250,12 +250,12 @@ module _ (w : Terms) (list list' : List ℤ) (places places' : List ℕ) (P : Pl
     change_asks = rw P.terms (change_changes S P.accepted n m tables ones_few twos_few x y first second listed)
 
     change_stored : (cell : List ℤ)
-        → Pairs (gone_of w n m) (λ k b. best_by w (after b (cell_clock (seconds w.timing k (gone_of w n m)) k n m)) x y counts changes) cell
+        → Pairs (gone_of w n m) (λ k s. best_by w (cell_clock s (seconds w.timing k (gone_of w n m)) k n m) x y counts changes) cell
         → Tables S counts (stored changes n m cell) (n * 49 + m + 1)
     unfolding aim
     change_stored cell pairs =
         changes_filled S P.accepted n m tables ones_few twos_few x y first second listed cell
-        (subst (λ v. Pairs (gone_of v n m) (λ k b. best_by v (after b (cell_clock (seconds w.timing k (gone_of v n m)) k n m)) x y counts changes) cell) P.terms pairs)
+        (subst (λ v. Pairs (gone_of v n m) (λ k s. best_by v (cell_clock s (seconds w.timing k (gone_of v n m)) k n m) x y counts changes) cell) P.terms pairs)
 
     pub change_cell : ChangeCell w list list' counts changes n m x y
     change_cell = record { asks = change_asks; place = row_place; stored = change_stored }
@@ -264,30 +264,30 @@ module _ (w : Terms) (list list' : List ℤ) (places places' : List ℕ) (P : Pl
     count_place : (n < 49) × (m < 49)
     count_place = (omega (arith, ones_few, count_few S P.accepted one), omega (arith, twos_few, count_few S P.accepted two))
 
-    count_asks : ((b : Bool) → Chooses w (at b 0 n m) x y counts changes) × Rates w.objective x y n m counts
+    count_asks : ((s : Station) → Chooses w (at s 0 n m) x y counts changes) × Rates w.objective x y n m counts
     unfolding aim
     count_asks = (
-      λ b. rw P.terms (count_chooses S P.accepted n m tables ones_few twos_few x y first second free b),
+      λ s. rw P.terms (count_chooses S P.accepted n m tables ones_few twos_few x y first second free s),
       count_rates S P.accepted n m tables ones_few twos_few x y first second free,
     )
 
     count_stored : (cell : List ℤ)
-        → Pairs 1 (λ k b. best_by w (at b 0 n m) x y counts changes) cell × (get_or cell 2 (pos 0) ≡ rate w.objective x y n m counts)
+        → Pairs 1 (λ k s. best_by w (at s 0 n m) x y counts changes) cell × (get_or cell 2 (pos 0) ≡ rate w.objective x y n m counts)
         → Tables S (stored counts n m cell) changes (n * 49 + m + 1)
     unfolding aim
     count_stored cell h =
         counts_filled S P.accepted n m tables ones_few twos_few x y first second free cell
-        (subst (λ v. Pairs 1 (λ k b. best_by v (at b 0 n m) x y counts changes) cell) P.terms h.0) h.1
+        (subst (λ v. Pairs 1 (λ k s. best_by v (at s 0 n m) x y counts changes) cell) P.terms h.0) h.1
 
     pub count_cell : CountCell w list list' counts changes n m x y
     count_cell = record { asks = count_asks; place = count_place; stored = count_stored }
 
--- a row that is right past its last cell is right altogether
-pub row_filled : (w : Terms) (list list' : List ℤ) (places places' : List ℕ) → Planning w list list' places places' → {counts changes : Table} (n k : ℕ) → w.twos < k
-    → Tables (asked_by w list list') counts changes (n * 49 + k) → Tables (asked_by w list list') counts changes ((n + 1) * 49)
-row_filled w list list' places places' P n k past tables =
+-- a row that is right with its last cell is right altogether
+pub row_filled : (w : Terms) (list list' : List ℤ) (places places' : List ℕ) → Planning w list list' places places' → {counts changes : Table} (n k : ℕ) → w.twos ≤ k
+    → Tables (asked_by w list list') counts changes (n * 49 + k + 1) → Tables (asked_by w list list') counts changes ((n + 1) * 49)
+row_filled w list list' places places' P n k last tables =
     record {
       square = tables.square;
       square' = tables.square';
-      right = λ n' m' h l b. tables.right n' m' h l (omega (arith, twos_are w list list' places places' P, twos_most w list list' places places' P));
+      right = λ n' m' h l before. tables.right n' m' h l (omega (arith, twos_are w list list' places places' P, twos_most w list list' places places' P));
     }

@@ -1,12 +1,8 @@
 -- The trains left at a station: none, or the next one and those after it; each is the station's, and good.
-use mathlib.Core.List.{List, [], ◌∷◌, ◌++◌}
-use mathlib.Core.Path.{◌≡◌, sym, ◌∙◌}
-use Prim.Native.Nat.{ℕ, zero, suc, ◌-◌, ◌≤◌, ◌<◌}
-use native.Mathlib.Omega.{arith}
-use lib.Dec.{T}
-use lib.ListN.{length, get_or, take, drop, length-drop, take-append-drop}
-use lib.Seq.{drop-cons, drop-length}
-use Rattle.rules.specs.Line.{Station, one, two}
+use Rattle.std.proofs.Common.{List, [], ◌∷◌, ◌++◌, ◌≡◌, sym, ◌∙◌, ℕ, zero, suc, ◌-◌, ◌≤◌, ◌<◌, arith, T, length, get_or, take, drop, length-drop, take-append-drop, drop-cons}
+use lib.Seq.{drop-length}
+use Rattle.rules.specs.declared.Station.{Station}
+use Rattle.rules.specs.declared.Station.TheVariants.{One as one, Two as two}
 use Rattle.rules.specs.Trains.{Section, aim, count_at, Train, train_at, trains_at, trains}
 use Rattle.rules.specs.Orders.{station_order}
 use Rattle.theory.specs.Schedule.{All}

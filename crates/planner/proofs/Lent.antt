@@ -1,11 +1,7 @@
 -- The departures, lent to the writer in two parts, come back as what it wrote in the first part, then what it wrote in the second.
-use mathlib.Core.List.{List, ◌++◌, append-nil}
-use mathlib.Core.Path.{◌≡◌, ◌∙◌, ap₂}
-use Prim.Native.Nat.{ℕ, ◌-◌, ◌≤◌}
-use native.Mathlib.Nat.{le_refl}
+use Rattle.std.proofs.Common.{List, ◌++◌, append-nil, ◌≡◌, ◌∙◌, ap₂, ℕ, ◌-◌, ◌≤◌, le_refl, length, take, drop, length-take-le, take_at}
 use borrow.Rule.Slice.PartMut.{mid_of, put_mid, mid_len, Post-is}
-use lib.ListN.{length, take, drop}
-use lib.Seq.{length-take-le, length_front, take_at, drop-length}
+use lib.Seq.{length_front, drop-length}
 use Rattle.planner.specs.Writer.{InListOrder, BothInListOrder}
 
 -- n departures were lent and came back as `one`; then the rest is lent
@@ -19,7 +15,7 @@ module _ (n : ℕ) (departures one : List ℕ) (h : n ≤ length departures) (ke
   whole : length half ≡ length departures
   whole = length_front departures one n kept
 
-  pub rest_count : length (mid_of n (length half - n) half) ≡ length departures - n
+  rest_count : length (mid_of n (length half - n) half) ≡ length departures - n
   rest_count = mid_len n (length half) half (le_refl (length half)) ∙ rw whole
 
   pub both : (two first second ones twos : List ℕ)

@@ -1,37 +1,20 @@
 -- Laws of writing by place: every place is within the list, each turn keeps what is written, and all that is written is in list order.
-use mathlib.Core.Bool.{Bool, true, false}
-use mathlib.Core.List.{List, [], ◌∷◌, map}
-use mathlib.Core.Path.{◌≡◌, refl, sym, ◌∙◌, ap, ap₂}
-use Prim.Native.Nat.{ℕ, zero, suc, ◌+◌, ◌≤◌, ◌<◌}
-use native.Mathlib.Nat.{zero-add}
-use native.Mathlib.Numerals.{add-one}
-use native.Mathlib.Omega.{arith}
-use borrow.Author.Tests.{eqb-true, eqb-false}
-use lib.Dec.{eqb}
-use lib.ListN.{length, get_or, take, drop, set, length-take, drop_of_length-le}
-use lib.Seq.{get_or-set_same, get_or-set_other, get_or-take, take-suc, drop-cons}
+use Rattle.std.proofs.Common.{Bool, true, false, List, ◌∷◌, map, ◌≡◌, refl, sym, ◌∙◌, ap, ap₂, ℕ, zero, suc, ◌+◌, ◌≤◌, ◌<◌, zero-add, add-one, arith, eqb-true, eqb, length, get_or, take, drop, set, length-take, drop_of_length-le, get_or-set_same, get_or-set_other, get_or-take, take-suc, drop-cons}
+use borrow.Author.Tests.{eqb-false}
 use Rattle.rules.specs.Lists.{count_from}
 use Rattle.theory.specs.Schedule.{All}
 use Rattle.theory.proofs.Facts.{each, all_append}
 use Rattle.theory.proofs.Permutations.{all_perm, perm_back, perm_length}
 use Rattle.best.proofs.Numbers.{length_count}
+use Rattle.std.proofs.lemmas.List.{get_or-map}
 use Rattle.planner.specs.Writer.{Covers, Tells, InListOrder}
+use Rattle.planner.proofs.Left.{all_at}
 
 all_below : (k n : ℕ) → All (λ i. i < k + n) (count_from k n)
 all_below k zero = All.none
 all_below k (suc n) =
     let first : k < k + suc n = omega arith in
     All.more first (each (λ i h. omega arith) (all_below (suc k) n))
-
-all_at : {P : ℕ → Type 0} {xs : List ℕ} → All P xs → (k : ℕ) → k < length xs → P (get_or xs k 0)
-all_at All.none k h = absurd (omega arith)
-all_at (All.more p ps) zero h = p
-all_at (All.more p ps) (suc k) h = all_at ps k (omega arith)
-
-map_at : (f : ℕ → ℕ) (xs : List ℕ) (k : ℕ) → k < length xs → get_or (map f xs) k 0 ≡ f (get_or xs k 0)
-map_at f [] k h = absurd (omega arith)
-map_at f (x ∷ xs) zero h = refl
-map_at f (x ∷ xs) (suc k) h = map_at f xs k (omega arith)
 
 -- a departure written at one place keeps those at the others
 kept : (leaves : ℕ → ℕ) (departures : List ℕ) (place i : ℕ) → place < length departures
@@ -62,7 +45,7 @@ module _ {n : ℕ} {places : List ℕ} (C : Covers n places) where
 
   pub inside : (k : ℕ) → k < n → get_or places k 0 < n
   inside k h =
-      rw (get_or-take n places k 0 h, zero-add n) at (all_at (all_perm C.all (all_below 0 n)) k (omega (arith, enough)))
+      rw (get_or-take n places k 0 h, zero-add n) at (all_at (all_perm C.all (all_below 0 n)) k 0 (omega (arith, enough)))
 
   module _ (times departures : List ℕ) (whole : length departures ≡ n) where
     pub turns : (k : ℕ) → k < n → Written n places times k departures
@@ -71,7 +54,7 @@ module _ {n : ℕ} {places : List ℕ} (C : Covers n places) where
     turns k h written leaves tells =
         let place = get_or places k 0 in
         let told : get_or times k 0 ≡ leaves place =
-        sym (get_or-take n times k 0 h) ∙ ap (λ xs. get_or xs k 0) tells ∙ map_at leaves (take n places) k (omega (arith, enough)) ∙ ap leaves (get_or-take n places k 0 h) in
+        sym (get_or-take n times k 0 h) ∙ ap (λ xs. get_or xs k 0) tells ∙ get_or-map leaves (take n places) k 0 0 (omega (arith, enough)) ∙ ap leaves (get_or-take n places k 0 h) in
         let within : place < length departures = omega (arith, inside k h) in
         rw (told, add-one k, take-suc places k 0 (omega (arith, enough, length-take n places)))
         (all_append

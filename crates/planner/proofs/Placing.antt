@@ -1,20 +1,10 @@
 -- The figures that the code takes for a station's next train are those of the next train in the station's order.
-use mathlib.Core.List.{List}
-use mathlib.Core.Path.{◌≡◌, ◌∙◌, ap}
-use Prim.Native.Nat.{ℕ, zero, suc, ◌+◌, ◌-◌, ◌≤◌, ◌<◌}
-use native.Mathlib.Omega.{arith}
-use borrow.Author.Tests.{ne_eqb}
-use lib.IntN.{ℤ}
-use lib.ListN.{get_or, take, get_or-map}
-use lib.Seq.{get_or-take}
-use Rattle.rules.specs.Lists.{count_from}
-use Rattle.rules.specs.Line.{Station, one, two}
+use Rattle.std.proofs.Common.{List, ◌≡◌, ◌∙◌, ap, ℕ, ◌-◌, ◌≤◌, ◌<◌, arith, ne_eqb, ℤ, get_or, take, get_or-take}
+use lib.ListN.{get_or-map}
+use Rattle.rules.specs.declared.Station.{Station}
+use Rattle.rules.specs.declared.Station.TheVariants.{One as one, Two as two}
 use Rattle.rules.specs.Trains.{Section, aim, list_at, count_at, train_at}
-use Rattle.theory.specs.Schedule.{All}
-use Rattle.theory.proofs.Facts.{each}
-use Rattle.theory.proofs.Permutations.{perm_length, all_perm}
 use Rattle.best.proofs.Accepted.{Accepted}
-use Rattle.best.proofs.Numbers.{length_count}
 use Rattle.refusals.specs.Trains.{trains_in}
 use Rattle.refusals.proofs.Table.{train_within}
 use Rattle.planner.specs.declared.clock.Terms.{Terms}
@@ -22,7 +12,7 @@ use Rattle.planner.specs.Trains.{next_figures, Queued}
 use Rattle.planner.specs.Day.{terms_of, turn}
 use Rattle.planner.specs.Order.{Placed}
 use Rattle.planner.specs.Planning.{asked_by, Planning}
-use Rattle.planner.proofs.Left.{all_at}
+use Rattle.planner.proofs.Places.{inside}
 use Rattle.planner.proofs.Entries.{count_few}
 use Rattle.planner.proofs.PlanRuns.{places_cover}
 
@@ -38,22 +28,11 @@ module _ (S : Section) (s : Station) (places : List ℕ) (placed : Placed S s pl
   unfolding next_figures train_at aim
   next_is = rw (turn_placed, ne_eqb n 0 (λ e. omega arith))
 
-below_count : (k n : ℕ) → All (λ i. i < k + n) (count_from k n)
-below_count k zero = All.none
-below_count k (suc n) =
-    let first : k < k + suc n = omega arith in
-    All.more first (each (λ i h. omega arith) (below_count (suc k) n))
-
 -- the list holds the figures of every place
 module _ (S : Section) (A : Accepted S) (s : Station) (places : List ℕ) (placed : Placed S s places) where
   place_within : (k : ℕ) → k < count_at S s → get_or places k 0 < count_at S s
   unfolding Placed
-  place_within k h =
-      let n : ℕ = count_at S s in
-      let cover = places_cover S s places placed (count_few S A s) in
-      let below = all_perm cover.all (below_count 0 n) in
-      let read = all_at below k 0 (omega (arith, perm_length cover.all, length_count 0 n)) in
-      omega (arith, rw (get_or-take n places k 0 h) at read)
+  place_within k h = inside (places_cover S s places placed (count_few S A s)) k h
 
   pub all_queued : (n : ℕ) → n ≤ count_at S s → Queued S.objective (list_at S s) places (count_at S s) n
   unfolding count_at trains_in aim

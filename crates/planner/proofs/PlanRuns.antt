@@ -1,14 +1,10 @@
 -- The runs of the plan: those of the walk from the start; and their departures by station, and by each station's places.
-use mathlib.Core.Bool.{Bool, true, false}
-use mathlib.Core.List.{List, ◌++◌, map, map-map, map-append, map-id}
-use mathlib.Core.Path.{◌≡◌, refl, sym, ◌∙◌, ap, ap₂}
-use Prim.Native.Nat.{ℕ, ◌-◌, ◌≤◌, ◌<◌}
-use native.Mathlib.Omega.{arith}
-use lib.Dec.{T}
-use lib.IntN.{ℤ}
-use lib.ListN.{take}
+use Rattle.std.proofs.Common.{Bool, true, false, List, ◌++◌, map, map-id, ◌≡◌, refl, sym, ◌∙◌, ap, ap₂, ℕ, ◌-◌, ◌≤◌, ◌<◌, arith, T, ℤ, take}
+use mathlib.Core.List.{map-map, map-append}
 use Rattle.rules.specs.Lists.{those, count_from}
-use Rattle.rules.specs.Line.{Station, one, two, same_station, good_timing}
+use Rattle.rules.specs.declared.Station.{Station}
+use Rattle.rules.specs.declared.Station.TheVariants.{One as one, Two as two}
+use Rattle.rules.specs.Line.{same_station, good_timing}
 use Rattle.rules.specs.Trains.{Section, aim, count_at, count, Train, first_number, train_at, trains_at, trains, Run}
 use Rattle.rules.specs.Orders.{station_order, leaving, departure_of, by_number, best_order, best_value, plan}
 use Rattle.rules.proofs.Lists.{those_map}
@@ -28,7 +24,8 @@ use Rattle.best.proofs.Stations.{order_perm, order_station}
 use Rattle.best.proofs.Days.{woven_same}
 use Rattle.best.proofs.BestOrder.{order_departures, order_day, best_woven, best_graded}
 use Rattle.planner.specs.Day.{left, earliest}
-use Rattle.planner.specs.Walk.{start, sofar, runs_left, times}
+use Rattle.planner.specs.Clock.{start}
+use Rattle.planner.specs.Walk.{sofar, runs_left, times}
 use Rattle.planner.specs.Writer.{Covers}
 
 -- Two queues woven: either may be named first, and a test that tells them apart gives one back.

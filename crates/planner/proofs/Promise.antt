@@ -1,17 +1,14 @@
 -- The planner's promise from the rules' answer and departures: demand 3 follows from them, of the list that is left.
-use mathlib.Core.List.{List, [], ◌∷◌}
-use mathlib.Core.Path.{◌≡◌, refl}
-use Prim.Native.Nat.{ℕ}
-use native.Mathlib.Omega.{arith}
-use lib.IntN.{pos}
-use lib.ListN.{length}
+use Rattle.std.proofs.Common.{List, [], ◌∷◌, ◌≡◌, refl, ℕ, arith, pos, length, Result, Ok, Err}
 use Rattle.rules.specs.declared.Answer.{Answer}
-use Rattle.rules.specs.declared.Outcome.TheVariants.{Refused}
 use Rattle.rules.specs.Trains.{Section}
 use Rattle.rules.specs.Orders.{best_value, plan}
 use Rattle.rules.specs.Refusals.{Refusal, refusals}
 use Rattle.rules.specs.Answers.{value_is, refused, says, verdict, written, planner_answers, planner_leaves}
 use Rattle.best.proofs.Demand.{demand_3}
+use Rattle.refusals.specs.declared.Reason.{Reason}
+use Rattle.refusals.specs.Reasons.{tells}
+use Rattle.refusals.proofs.Reasons.{same_check}
 use Rattle.planner.specs.Promise.{Unbeaten, BestLeft}
 
 module _ (S : Section) (before : List ℕ) where
@@ -31,25 +28,26 @@ module _ (S : Section) (before : List ℕ) where
           let never : ◌≡◌ {A = ℕ} 0 1 = cc in
           absurd (omega arith)
 
-  -- the whole promise, from its first two parts
-  pub promised : (a : Answer) (xs : List ℕ) → says a ≡ planner_answers S (length before) → xs ≡ planner_leaves S before
-      → (says a ≡ planner_answers S (length before)) × ((xs ≡ planner_leaves S before) × BestLeft S a xs)
-  promised a xs said left = (said, (left, best_left a xs said left))
+  -- a reason that the call is refused for stands, and nothing is written
+  module _ (r : Reason) (told : tells r ≡ verdict (refusals S (length before)) (pos 0)) where
+    by_refusals : (rs : List Refusal) → tells r ≡ verdict rs (pos 0) → (tells r ≡ verdict rs (best_value S)) × (before ≡ written rs (plan S) before)
+    by_refusals [] told = let clash : ◌≡◌ {A = Result Unit Reason} (Err r) (Ok tt) = same_check (Err r) (Ok tt) (pos 0) told in cc
+    by_refusals (x ∷ rs) told = (told, refl)
 
-  -- a refusal stands, and nothing is written
-  pub refused_call : (a : Answer) {number first second : ℕ} → a.outcome ≡ Refused number first second → says a ≡ verdict (refusals S (length before)) (pos 0)
-      → (says a ≡ planner_answers S (length before)) × (before ≡ planner_leaves S before)
-  unfolding planner_answers planner_leaves says
-  refused_call a {number} {first} {second} told said = by_refusals (refusals S (length before)) said
-    where
-      by_refusals : (rs : List Refusal) → says a ≡ verdict rs (pos 0) → (says a ≡ verdict rs (best_value S)) × (before ≡ written rs (plan S) before)
-      by_refusals [] said =
-          let clash : refused number first second ≡ value_is (pos 0) = rw told at said in
-          let never : ◌≡◌ {A = ℕ} 0 1 = cc in
-          absurd (omega arith)
-      by_refusals (r ∷ rs) said = (said, refl)
+    pub refused_answers : tells r ≡ planner_answers S (length before)
+    unfolding planner_answers
+    refused_answers = (by_refusals (refusals S (length before)) told).0
+
+    pub refused_leaves : before ≡ planner_leaves S before
+    unfolding planner_leaves
+    refused_leaves = (by_refusals (refusals S (length before)) told).1
 
   -- where nothing is refused, the best value is answered and the plan is left
-  pub planned_call : refusals S (length before) ≡ [] → (value_is (best_value S) ≡ planner_answers S (length before)) × (plan S ≡ planner_leaves S before)
-  unfolding planner_answers planner_leaves
-  planned_call none = rw none (refl, refl)
+  module _ (none : refusals S (length before) ≡ []) where
+    pub planned_answers : value_is (best_value S) ≡ planner_answers S (length before)
+    unfolding planner_answers
+    planned_answers = rw none refl
+
+    pub planned_leaves : plan S ≡ planner_leaves S before
+    unfolding planner_leaves
+    planned_leaves = rw none refl

@@ -1,11 +1,6 @@
 -- The walk's goal is the best value, and what is written of its times is the rules' plan.
-use mathlib.Core.List.{List}
-use mathlib.Core.Path.{◌≡◌, sym, ◌∙◌, ap, ap₂}
-use Prim.Native.Nat.{ℕ, ◌+◌, ◌-◌, ◌≤◌}
-use native.Mathlib.Nat.{le_refl}
-use native.Mathlib.Omega.{arith}
-use lib.IntN.{ℤ}
-use Rattle.rules.specs.Line.{one, two}
+use Rattle.std.proofs.Common.{List, ◌≡◌, sym, ◌∙◌, ap, ap₂, ℕ, ◌+◌, ◌-◌, le_refl, arith, ℤ}
+use Rattle.rules.specs.declared.Station.TheVariants.{One as one, Two as two}
 use Rattle.rules.specs.Trains.{Section, count_at, count}
 use Rattle.rules.specs.Orders.{station_order, best_value, plan}
 use Rattle.theory.specs.Orders.{best}
@@ -13,11 +8,12 @@ use Rattle.best.specs.Instance.{line}
 use Rattle.best.proofs.Objectives.{fair_aim}
 use Rattle.best.proofs.Accepted.{Accepted}
 use Rattle.planner.specs.declared.clock.Clock.{Clock}
-use Rattle.planner.specs.declared.clock.Terms.{Terms}
+use Rattle.planner.specs.declared.day.Day.{Day}
+use Rattle.planner.specs.Clock.{start}
 use Rattle.planner.specs.Day.{earliest, rest}
-use Rattle.planner.specs.Walk.{start, times, Walks}
+use Rattle.planner.specs.Walk.{times, Walks}
 use Rattle.planner.specs.Order.{Placed}
-use Rattle.planner.specs.Planning.{asked_by, Planning}
+use Rattle.planner.specs.Filled.{section_of}
 use Rattle.planner.specs.Writer.{Covers, Tells, BothInListOrder}
 use Rattle.planner.proofs.Sending.{rest_grade}
 use Rattle.planner.proofs.Entries.{count_few}
@@ -55,34 +51,32 @@ module _ (S : Section) (A : Accepted S) where
         written (leaves_at S one) (leaves_at S two) (tells_first first placed) (tells_second second placed')
         ∙ sym (plan_by_place S A.timed A.filled)
 
--- the same by a call's terms, and as many departures as there are trains
-module _ (w : Terms) (list list' : List ℤ) (first second : List ℕ) (P : Planning w list list' first second) where
+-- the same by a call's day, and as many departures as there are trains
+module _ (d : Day) where
   abbrev asks : Section
-  asks = asked_by w list list'
+  asks = section_of d
 
-  module _ {goal : ℤ} (e : goal ≡ rest asks (start w.ones w.twos)) where
-    goal_from : goal ≡ rest asks (first_clock asks P.accepted)
-    goal_from = e ∙ ap₂ (λ n m. rest asks (start n m)) (ones_are w list list' first second P) (twos_are w list list' first second P)
+  module _ {places : ℕ} (all : places ≡ d.terms.ones + d.terms.twos) where
+    rest_are : places - d.terms.ones ≡ count_at asks two
+    rest_are = omega (arith, twos_are _ _ _ _ _ d.planned)
+
+    pub first_covered : Covers d.terms.ones d.one.places
+    unfolding Placed
+    first_covered = rw (ones_are _ _ _ _ _ d.planned) (places_cover asks one _ d.planned.first_placed (count_few asks d.planned.accepted one))
+
+    pub second_covered : Covers (places - d.terms.ones) d.two.places
+    unfolding Placed
+    second_covered = rw rest_are (places_cover asks two _ d.planned.second_placed (count_few asks d.planned.accepted two))
+
+  module _ {goal : ℤ} (e : goal ≡ rest asks (start d.terms.ones d.terms.twos)) where
+    goal_from : goal ≡ rest asks (first_clock asks d.planned.accepted)
+    goal_from = e ∙ ap₂ (λ n m. rest asks (start n m)) (ones_are _ _ _ _ _ d.planned) (twos_are _ _ _ _ _ d.planned)
 
     pub goal_best : goal ≡ best_value asks
-    goal_best = goal_from ∙ goal_is asks P.accepted
+    goal_best = goal_from ∙ goal_is asks d.planned.accepted
 
-    module _ (places : ℕ) (all : places ≡ w.ones + w.twos) where
-      rest_are : places - w.ones ≡ count_at asks two
-      rest_are = omega (arith, twos_are w list list' first second P)
-
-      pub places_covered : (w.ones ≤ places) × (Covers w.ones first × Covers (places - w.ones) second)
-      unfolding Placed
-      places_covered = (
-        omega arith,
-        (
-          rw (ones_are w list list' first second P) (places_cover asks one first P.first_placed (count_few asks P.accepted one)),
-          rw rest_are (places_cover asks two second P.second_placed (count_few asks P.accepted two)),
-        ),
-      )
-
-      pub plan_left : {ones twos : List ℕ} (departures : List ℕ) → Walks asks goal ones twos
-          → BothInListOrder w.ones (places - w.ones) first second ones twos departures → departures ≡ plan asks
-      plan_left departures walks written =
-          plan_written asks P.accepted (rw goal_from at walks) first second departures P.first_placed P.second_placed
-          (rw (rest_are, ones_are w list list' first second P) at written)
+    pub plan_left : {places : ℕ} → places ≡ d.terms.ones + d.terms.twos → {ones twos departures : List ℕ} → Walks asks goal ones twos
+        → BothInListOrder d.terms.ones (places - d.terms.ones) d.one.places d.two.places ones twos departures → departures ≡ plan asks
+    plan_left all walks written =
+        plan_written asks d.planned.accepted (rw goal_from at walks) _ _ _ d.planned.first_placed d.planned.second_placed
+        (rw (rest_are all, ones_are _ _ _ _ _ d.planned) at written)

@@ -1,12 +1,7 @@
 -- A cell stored in a square table: it is read back, all others stay, and the table stays square.
-use mathlib.Core.List.{List, []}
-use mathlib.Core.Logic.{◌≢◌, by_cases}
-use mathlib.Core.Path.{◌≡◌, ◌∙◌}
-use Prim.Native.Nat.{ℕ, ◌<◌}
+use Rattle.std.proofs.Common.{List, [], ◌≢◌, ◌≡◌, ◌∙◌, ℕ, ◌<◌, ℤ, pos, get_or, set, length-set, get_or-set_same, get_or-set_other}
+use mathlib.Core.Logic.{by_cases}
 use native.Mathlib.Decide.{ℕ_discrete}
-use lib.IntN.{ℤ, pos}
-use lib.ListN.{get_or, set, length-set}
-use lib.Seq.{get_or-set_same, get_or-set_other}
 use Rattle.planner.specs.Rests.{Table, entry}
 use Rattle.planner.specs.Day.{Square}
 

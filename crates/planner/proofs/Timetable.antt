@@ -1,27 +1,23 @@
 -- The timetable as it is written: the departures so far, and those of the runs that are left, are the whole day's.
-use mathlib.Core.Bool.{Bool, true, false, cond, true≢false}
-use mathlib.Core.List.{List, ◌∷◌, ◌++◌, append-nil}
-use mathlib.Core.Path.{◌≡◌, refl, sym, ◌∙◌, ap}
-use Prim.Native.Nat.{ℕ, suc, ◌+◌, ◌-◌, ◌≤◌, ◌<◌}
-use native.Mathlib.Omega.{arith}
-use lib.IntN.{ℤ}
-use lib.ListN.{length, take, set, length-set}
-use lib.Seq.{take-suc-set, append_snoc}
-use Rattle.rules.specs.Line.{Station, one, two, same_station}
+use Rattle.std.proofs.Common.{true, false, List, ◌∷◌, ◌++◌, append-nil, ◌≡◌, refl, sym, ◌∙◌, ap, ℕ, suc, ◌+◌, ◌-◌, ◌≤◌, ◌<◌, arith, ℤ, length, take, set, length-set, take-suc-set}
+use lib.Seq.{append_snoc}
+use Rattle.std.proofs.lemmas.Option.{none-some}
+use Rattle.rules.specs.declared.Station.{Station}
+use Rattle.rules.specs.declared.Station.TheVariants.{One as one, Two as two}
+use Rattle.rules.specs.Line.{same_station}
 use Rattle.rules.specs.Trains.{Section, count_at, Run}
 use Rattle.best.proofs.Accepted.{Accepted}
-use Rattle.line.specs.Station.{station}
 use Rattle.planner.specs.declared.clock.Clock.{Clock}
-use Rattle.planner.specs.declared.clock.Terms.{Terms}
-use Rattle.planner.specs.Clock.{alone, next}
-use Rattle.planner.specs.Day.{terms_of, next_of, Running}
-use Rattle.planner.specs.Walk.{start, goes_one, step, runs_left, times, Counted, Walks}
-use Rattle.planner.specs.Planning.{asked_by, Planning}
+use Rattle.planner.specs.declared.day.Day.{Day}
+use Rattle.planner.specs.Clock.{by_station, departs, start, alone, next}
+use Rattle.planner.specs.Day.{next_of, goes_on, Running}
+use Rattle.planner.specs.Walk.{goes, step, runs_left, times, Counted, Walks}
+use Rattle.planner.specs.Filled.{section_of}
 use Rattle.planner.proofs.Small.{one_fewer}
 use Rattle.planner.proofs.Underway.{on_running}
 use Rattle.planner.proofs.Entries.{count_few}
 use Rattle.planner.proofs.Placing.{ones_are, twos_are}
-use Rattle.planner.proofs.Stepping.{one_left, two_left, some_left, no_runs, here, step_runs}
+use Rattle.planner.proofs.Stepping.{some_left, no_runs, here, step_runs}
 use Rattle.planner.proofs.Strides.{on_counted, start_running}
 
 same_self : (s : Station) → same_station s s ≡ true
@@ -57,46 +53,49 @@ pub record Noted (S : Section) (goal : ℤ) (c : Clock) (ones twos : List ℕ) :
 
 module _ (S : Section) (A : Accepted S) (goal : ℤ) where
   module _ (c : Clock) (R : Running S c) (some : 0 < c.ones + c.twos) where
-    abbrev b : Bool
-    b = goes_one S goal c
+    -- the station whose train leaves, and when
+    abbrev from : Station
+    from = goes S goal c
+
+    abbrev second : ℕ
+    second = departs S.timing c from
 
     abbrev c' : Clock
     c' = step S goal c
 
-    has : 0 < cond b c.ones c.twos
-    has = some_left S goal c some b refl
+    has : 0 < by_station from c.ones c.twos
+    has = some_left S goal c some
 
     -- the next run is that of the train which leaves
-    times_sent : (s : Station) → station b ≡ s → times s (runs_left S goal c) ≡ c'.departure ∷ times s (runs_left S goal c')
-    unfolding step next alone terms_of
+    times_sent : (s : Station) → from ≡ s → times s (runs_left S goal c) ≡ second ∷ times s (runs_left S goal c')
     times_sent s e =
         ap (times s) (step_runs S goal c R.ones_few R.twos_few some)
-        ∙ times_own s _ _ (here S goal c R.ones_few R.twos_few b has ∙ e)
+        ∙ times_own s _ _ (here S goal c R.ones_few R.twos_few from has ∙ e)
 
-    times_stay : (s : Station) → same_station s (station b) ≡ false → times s (runs_left S goal c) ≡ times s (runs_left S goal c')
+    times_stay : (s : Station) → same_station s from ≡ false → times s (runs_left S goal c) ≡ times s (runs_left S goal c')
     times_stay s e =
         ap (times s) (step_runs S goal c R.ones_few R.twos_few some)
-        ∙ times_other s _ _ (ap (same_station s) (here S goal c R.ones_few R.twos_few b has) ∙ e)
+        ∙ times_other s _ _ (ap (same_station s) (here S goal c R.ones_few R.twos_few from has) ∙ e)
 
     -- how many trains are then left
-    one_gone : c'.one ≡ true → (suc c'.ones ≡ c.ones) × (c'.twos ≡ c.twos)
+    one_gone : from ≡ one → (suc c'.ones ≡ c.ones) × (c'.twos ≡ c.twos)
     unfolding step next alone
-    one_gone e = let some_one = one_left S goal c e in rw e (omega arith, omega arith)
+    one_gone e = let some_one : 0 < c.ones = rw e at has in rw e (omega arith, omega arith)
 
-    two_gone : c'.one ≡ false → (c'.ones ≡ c.ones) × (suc c'.twos ≡ c.twos)
+    two_gone : from ≡ two → (c'.ones ≡ c.ones) × (suc c'.twos ≡ c.twos)
     unfolding step next alone
-    two_gone e = let some_two = two_left S goal c some e in rw e (omega arith, omega arith)
+    two_gone e = let some_two : 0 < c.twos = rw e at has in rw e (omega arith, omega arith)
 
     -- the station's departure goes into its array, and the other's array stays
-    module _ (s : Station) (n : ℕ) (xs : List ℕ) (so_far : Written S goal c s n xs) where
-      writes : (n' k : ℕ) → station b ≡ s → suc n' ≡ n → suc (k + n') ≡ count_at S s → k < length xs → Written S goal c' s n' (set xs k c'.departure)
-      writes n' k e fewer place inside =
-          let before : count_at S s - n ≡ k = omega arith in
-          let after : count_at S s - n' ≡ suc k = omega arith in
-          rw (after, written, ← times_sent s e, ← before) so_far
+    module _ (s : Station) (n n' : ℕ) (xs : List ℕ) (so_far : Written S goal c s n xs) where
+      writes : from ≡ s → suc n' ≡ n → n ≤ count_at S s → count_at S s ≤ length xs → Written S goal c' s n' (set xs (count_at S s - n) second)
+      writes e fewer few long =
+          let after : count_at S s - n' ≡ suc (count_at S s - n) = omega arith in
+          let inside : count_at S s - n < length xs = omega arith in
+          rw (after, written xs (count_at S s - n) second _ inside, ← times_sent s e) so_far
 
-      stays : (n' : ℕ) → same_station s (station b) ≡ false → n' ≡ n → Written S goal c' s n' xs
-      stays n' e same = rw (same, ← times_stay s e) so_far
+      stays : same_station s from ≡ false → n' ≡ n → Written S goal c' s n' xs
+      stays e same = rw (same, ← times_stay s e) so_far
 
   module _ (c : Clock) (ones twos : List ℕ) (N : Noted S goal c ones twos) (some : 0 < c.ones + c.twos) where
     R : Running S c
@@ -104,14 +103,13 @@ module _ (S : Section) (A : Accepted S) (goal : ℤ) where
 
     on : Running S (step S goal c)
     unfolding step
-    on = on_running S A.timed c R (goes_one S goal c) (has c R some) (next_of S c (goes_one S goal c)).figures
+    on = on_running S A.timed c R (goes S goal c) (has c R some) (next_of S c (goes S goal c)).figures
 
     counted_on : Counted S (step S goal c)
     unfolding step
-    counted_on = on_counted S A c R N.counted (goes_one S goal c) (has c R some)
+    counted_on = on_counted S A c R N.counted (goes S goal c) (has c R some)
 
-    notes_one : (step S goal c).one ≡ true → Noted S goal (step S goal c) (set ones (count_at S one - 1 - (step S goal c).ones) (step S goal c).departure) twos
-    unfolding step next
+    notes_one : goes S goal c ≡ one → Noted S goal (step S goal c) (set ones (count_at S one - c.ones) (second c R some)) twos
     notes_one e =
         let (fewer, same) = one_gone c R some e in
         record {
@@ -119,12 +117,11 @@ module _ (S : Section) (A : Accepted S) (goal : ℤ) where
           counted = counted_on;
           long = length-set ones _ _ ∙ N.long;
           long' = N.long';
-          first = writes c R some one c.ones ones N.first _ _ (ap station e) fewer (omega (arith, R.ones_few)) (omega (arith, N.long, count_few S A one));
-          second = stays c R some two c.twos twos N.second _ (ap (λ b. same_station two (station b)) e) same;
+          first = writes c R some one c.ones _ ones N.first e fewer R.ones_few (omega (arith, N.long, count_few S A one));
+          second = stays c R some two c.twos _ twos N.second (ap (same_station two) e) same;
         }
 
-    notes_two : (step S goal c).one ≡ false → Noted S goal (step S goal c) ones (set twos (count_at S two - 1 - (step S goal c).twos) (step S goal c).departure)
-    unfolding step next
+    notes_two : goes S goal c ≡ two → Noted S goal (step S goal c) ones (set twos (count_at S two - c.twos) (second c R some))
     notes_two e =
         let (same, fewer) = two_gone c R some e in
         record {
@@ -132,8 +129,8 @@ module _ (S : Section) (A : Accepted S) (goal : ℤ) where
           counted = counted_on;
           long = N.long;
           long' = length-set twos _ _ ∙ N.long';
-          first = stays c R some one c.ones ones N.first _ (ap (λ b. same_station one (station b)) e) same;
-          second = writes c R some two c.twos twos N.second _ _ (ap station e) fewer (omega (arith, R.twos_few)) (omega (arith, N.long', count_few S A two));
+          first = stays c R some one c.ones _ ones N.first (ap (same_station one) e) same;
+          second = writes c R some two c.twos _ twos N.second e fewer R.twos_few (omega (arith, N.long', count_few S A two));
         }
 
   -- at the end all are written
@@ -148,59 +145,64 @@ module _ (S : Section) (A : Accepted S) (goal : ℤ) where
           let done : count_at S s - n ≡ count_at S s = omega arith in
           sym (append-nil (take (count_at S s) xs)) ∙ rw (done, no_runs S goal c (omega arith) (omega arith)) at so_far
 
--- the same of a call, by its terms
-module _ (w : Terms) (list list' : List ℤ) (first second : List ℕ) (P : Planning w list list' first second) (goal : ℤ) where
+-- the same of a call, by its day
+module _ (d : Day) (goal : ℤ) where
   abbrev S : Section
-  S = asked_by w list list'
+  S = section_of d
 
-  ones_same : w.ones ≡ count_at S one
-  ones_same = ones_are w list list' first second P
+  ones_same : d.terms.ones ≡ count_at S one
+  ones_same = ones_are _ _ _ _ _ d.planned
 
-  twos_same : w.twos ≡ count_at S two
-  twos_same = twos_are w list list' first second P
+  twos_same : d.terms.twos ≡ count_at S two
+  twos_same = twos_are _ _ _ _ _ d.planned
 
   -- before the first train nothing is written
-  pub noted_none : (ones twos : List ℕ) → length ones ≡ 48 → length twos ≡ 48 → Noted S goal (start w.ones w.twos) ones twos
+  pub noted_none : (ones twos : List ℕ) → length ones ≡ 48 → length twos ≡ 48 → Noted S goal (start d.terms.ones d.terms.twos) ones twos
   unfolding start
   noted_none ones twos long long' =
       record {
-        running = start_running w list list' first second P;
-        counted = record { small = λ e. absurd (true≢false (sym e)) };
+        running = start_running d;
+        counted = record { small = λ _ e. absurd (none-some _ e) };
         long = long;
         long' = long';
-        first = none one w.ones ones ones_same;
-        second = none two w.twos twos twos_same;
+        first = none one d.terms.ones ones ones_same;
+        second = none two d.terms.twos twos twos_same;
       }
     where
-      none : (s : Station) (n : ℕ) (xs : List ℕ) → n ≡ count_at S s → Written S goal (start w.ones w.twos) s n xs
+      none : (s : Station) (n : ℕ) (xs : List ℕ) → n ≡ count_at S s → Written S goal (start d.terms.ones d.terms.twos) s n xs
       none s n xs e =
           let empty : count_at S s - n ≡ 0 = omega arith in
           rw (empty, ones_same, twos_same)
 
-  -- a step writes the departure of the train that leaves
-  module _ {c c' : Clock} {ones twos : List ℕ} (N : Noted S goal c ones twos) (some : 0 < c.ones + c.twos) (stepped : c' ≡ step S goal c) where
-    pub step_fewer : c'.ones + c'.twos < c.ones + c.twos
-    unfolding step next
-    step_fewer =
-        let b : Bool = goes_one S goal c in
-        rw stepped
-        (omega (arith, one_fewer S P.accepted.timed P.accepted.good c (next_of S c b).figures b (has S P.accepted goal c N.running some)))
+  -- from a station whose next train leaves: how many are left, and its place in the station's array
+  module _ {c : Clock} {ones twos : List ℕ} (N : Noted S goal c ones twos) (some : 0 < c.ones + c.twos) {s : Station} (chosen : s ≡ goes S goal c) where
+    left : 0 < by_station s c.ones c.twos
+    left = rw chosen (has S d.planned.accepted goal c N.running some)
 
-    -- its place is one of its station's
-    pub one_placed : c'.one ≡ true → (c'.ones < w.ones) × (w.ones ≤ 48)
-    one_placed =
-        rw stepped (λ e.
-        let (fewer, _) = one_gone S P.accepted goal c N.running some e in
-        (omega (arith, N.running.ones_few, ones_same), omega (arith, ones_same, count_few S P.accepted one)))
+    pub one_placed : s ≡ one → (c.ones ≤ d.terms.ones) × (d.terms.ones - c.ones < 48)
+    one_placed e =
+        let has_one : 0 < c.ones = rw e at left in
+        (omega (arith, N.running.ones_few, ones_same), omega (arith, N.running.ones_few, ones_same, count_few S d.planned.accepted one))
 
-    pub two_placed : c'.one ≡ false → (c'.twos < w.twos) × (w.twos ≤ 48)
-    two_placed =
-        rw stepped (λ e.
-        let (_, fewer) = two_gone S P.accepted goal c N.running some e in
-        (omega (arith, N.running.twos_few, twos_same), omega (arith, twos_same, count_few S P.accepted two)))
+    pub two_placed : s ≡ two → (c.twos ≤ d.terms.twos) × (d.terms.twos - c.twos < 48)
+    two_placed e =
+        let has_two : 0 < c.twos = rw e at left in
+        (omega (arith, N.running.twos_few, twos_same), omega (arith, N.running.twos_few, twos_same, count_few S d.planned.accepted two))
 
-    pub one_noted : c'.one ≡ true → Noted S goal c' (set ones (w.ones - 1 - c'.ones) c'.departure) twos
-    one_noted = rw (stepped, ones_same) (notes_one S P.accepted goal c ones twos N some)
+    module _ {c' : Clock} (gone : c' ≡ goes_on S c s) where
+      stepped : c' ≡ step S goal c
+      unfolding step
+      stepped = gone ∙ ap (goes_on S c) chosen
 
-    pub two_noted : c'.one ≡ false → Noted S goal c' ones (set twos (w.twos - 1 - c'.twos) c'.departure)
-    two_noted = rw (stepped, twos_same) (notes_two S P.accepted goal c ones twos N some)
+      pub step_fewer : c'.ones + c'.twos < c.ones + c.twos
+      unfolding next
+      step_fewer =
+          rw gone (omega (arith, one_fewer S d.planned.accepted.timed d.planned.accepted.good c (next_of S c s).figures s left))
+
+      -- its departure is written there
+      module _ {second : ℕ} (e : second ≡ departs S.timing c s) where
+        pub one_noted : s ≡ one → Noted S goal c' (set ones (d.terms.ones - c.ones) second) twos
+        one_noted is_one = rw (stepped, ones_same, e, chosen) (notes_one S d.planned.accepted goal c ones twos N some (sym chosen ∙ is_one))
+
+        pub two_noted : s ≡ two → Noted S goal c' ones (set twos (d.terms.twos - c.twos) second)
+        two_noted is_two = rw (stepped, twos_same, e, chosen) (notes_two S d.planned.accepted goal c ones twos N some (sym chosen ∙ is_two))

@@ -1,18 +1,15 @@
 -- A clock stays on its way through the day when a station's next train leaves.
-use mathlib.Core.Bool.{Bool, true, false, not, ◌&&◌, cond, true≢false}
-use mathlib.Core.List.{List}
-use mathlib.Core.Path.{◌≡◌, refl, sym, ◌∙◌, ap, ap₂}
-use Prim.Native.Nat.{ℕ, suc, ◌+◌, ◌-◌, ◌≤◌, ◌<◌}
-use native.Mathlib.Nat.{suc-mul, zero-mul}
-use native.Mathlib.Omega.{arith}
-use lib.Dec.{T}
-use lib.IntN.{ℤ}
+use Rattle.std.proofs.Common.{true, cond, List, ◌≡◌, refl, sym, ◌∙◌, ap, ap₂, ℕ, suc, ◌+◌, ◌-◌, ◌≤◌, ◌<◌, suc-mul, zero-mul, arith, T, ℤ, Option, Some, None}
+use Rattle.std.proofs.lemmas.Option.{none-some}
+use Rattle.std.proofs.lemmas.Grind.{common_steps}
 use Rattle.rules.specs.declared.Timing.{Timing}
-use Rattle.rules.specs.Line.{Station, one, two, good_timing, gap, same_station}
-use Rattle.rules.specs.Trains.{Section, aim, count_at}
-use Rattle.line.specs.Station.{station}
+use Rattle.rules.specs.declared.Station.{Station}
+use Rattle.rules.specs.declared.Station.TheVariants.{One as one, Two as two}
+use Rattle.rules.specs.Line.{good_timing, gap, same_station}
+use Rattle.rules.specs.Trains.{Section, aim}
 use Rattle.planner.specs.declared.clock.Clock.{Clock}
-use Rattle.planner.specs.Clock.{departs, changed, alone, next}
+use Rattle.planner.specs.declared.clock.Departure.{Departure}
+use Rattle.planner.specs.Clock.{by_station, second_of, departs_after, departs, change, changed, alone, next}
 use Rattle.planner.specs.Cells.{gone_of, seconds}
 use Rattle.planner.specs.Day.{terms_of, gone, Running}
 use Rattle.planner.proofs.Near.{departs_most}
@@ -31,7 +28,7 @@ module _ (t : Timing) (k n : ℕ) (h : k < n) where
       let same : suc n - 1 - suc k ≡ n - 1 - k = omega arith in
       rw (same, suc-mul) (omega arith)
 
-  seconds_next : (s s' : Station) → seconds t (k + cond (not (same_station s s')) 1 0) (suc n) ≡ seconds t k n + gap t s s'
+  seconds_next : (s s' : Station) → seconds t (k + cond (same_station s s') 0 1) (suc n) ≡ seconds t k n + gap t s s'
   seconds_next one one = ap (λ j. seconds t j (suc n)) (omega arith) ∙ seconds_same
   seconds_next one two = ap (λ j. seconds t j (suc n)) (omega arith) ∙ seconds_changed
   seconds_next two one = ap (λ j. seconds t j (suc n)) (omega arith) ∙ seconds_changed
@@ -39,61 +36,50 @@ module _ (t : Timing) (k n : ℕ) (h : k < n) where
 
 seconds_start : (t : Timing) → seconds t 0 1 ≡ 0
 unfolding seconds
-seconds_start t = rw (zero-mul, zero-mul)
+seconds_start t = simp zero-mul
 
-test_most : (b : Bool) → cond b 1 0 ≤ 1
-test_most true = omega arith
-test_most false = omega arith
+change_most : (last : Option Departure) (s : Station) → change last s ≤ 1
+change_most None s = omega arith
+change_most (Some last) s = grind (arith, common_steps)
 
-changed_most : (c : Clock) (b : Bool) → changed c b ≤ c.changes + 1
-unfolding changed
-changed_most c b = omega (arith, test_most (c.begun && not (same_station (station c.one) (station b))))
-
-module _ (S : Section) (timed : T (good_timing S.timing)) (c : Clock) (R : Running S c) (b : Bool) (some : 0 < cond b c.ones c.twos) (x : List ℤ) where
+module _ (S : Section) (timed : T (good_timing S.timing)) (c : Clock) (R : Running S c) (s : Station) (some : 0 < by_station s c.ones c.twos) (x : List ℤ) where
   abbrev after : Clock
-  after = alone (terms_of S) c b x
+  after = alone (terms_of S) c s x
 
   pub gone_more : gone S after ≡ suc (gone S c)
   unfolding alone gone_of terms_of
-  gone_more = by_station b some
-    where
-      by_station : (b : Bool) → 0 < cond b c.ones c.twos
-          → count_at S one + count_at S two - (c.ones - cond b 1 0 + (c.twos - cond b 0 1)) ≡ suc (count_at S one + count_at S two - (c.ones + c.twos))
-      by_station true h = omega (arith, R.ones_few, R.twos_few)
-      by_station false h = omega (arith, R.ones_few, R.twos_few)
+  gone_more = grind (arith, common_steps, some, R.ones_few, R.twos_few)
 
   -- with rows, the changes tell the departure before and after
-  still_told : (aim S).listed ≡ true → (changed c b < suc (gone S c)) × (departs S.timing c b ≡ seconds S.timing (changed c b) (suc (gone S c)))
+  still_told : (aim S).listed ≡ true → (changed c s < suc (gone S c)) × (departs S.timing c s ≡ seconds S.timing (changed c s) (suc (gone S c)))
   unfolding changed departs
-  still_told listed = by_begun c.begun refl
+  still_told listed = by_last c.last refl
     where
-      by_begun : (k : Bool) → c.begun ≡ k
-          → (c.changes + cond (k && not (same_station (station c.one) (station b))) 1 0 < suc (gone S c))
-          × (cond k (c.departure + gap S.timing (station c.one) (station b)) 0
-          ≡ seconds S.timing (c.changes + cond (k && not (same_station (station c.one) (station b))) 1 0) (suc (gone S c)))
-      by_begun true e =
-          let (fewer, at) = R.told listed e in (
-            omega (arith, test_most (not (same_station (station c.one) (station b)))),
-            ap (λ d. d + gap S.timing (station c.one) (station b)) at ∙ sym (seconds_next S.timing c.changes (gone S c) fewer (station c.one) (station b)),
+      by_last : (last : Option Departure) → c.last ≡ last
+          → (c.changes + change last s < suc (gone S c)) × (departs_after S.timing last s ≡ seconds S.timing (c.changes + change last s) (suc (gone S c)))
+      by_last (Some last) e =
+          let (fewer, at) = R.told listed last e in (
+            omega (arith, change_most (Some last) s),
+            ap (λ d. d + gap S.timing last.station s) at ∙ sym (seconds_next S.timing c.changes (gone S c) fewer last.station s),
           )
-      by_begun false e =
+      by_last None e =
           let (none, fresh) = R.unbegun e in
           (omega arith, sym (ap₂ (seconds S.timing) {x = c.changes + 0} {y = 0} (omega arith) (ap suc none) ∙ seconds_start S.timing))
 
   pub next_running : Running S after
-  unfolding alone terms_of
+  unfolding alone changed terms_of
   next_running =
       record {
         ones_few = omega (arith, R.ones_few);
         twos_few = omega (arith, R.twos_few);
-        soon = rw gone_more (omega (arith, R.soon, departs_most S.timing timed c b));
-        few = rw gone_more (omega (arith, R.few, changed_most c b));
-        unbegun = λ e. absurd (true≢false e);
-        told = λ listed e. rw gone_more (still_told listed);
+        soon = rw gone_more (omega (arith, R.soon, departs_most S.timing timed c s));
+        few = rw gone_more (omega (arith, R.few, change_most c.last s));
+        unbegun = λ e. absurd (none-some _ (sym e));
+        told = λ listed last e. let (fewer, at) = still_told listed in rw (gone_more, ← ap second_of e) (fewer, at);
       }
 
   -- what has been counted so far makes no difference to that
-  pub on_running : Running S (next (terms_of S) c b x)
+  pub on_running : Running S (next (terms_of S) c s x)
   unfolding alone next
   on_running =
       let R' = next_running in

@@ -1,5 +1,5 @@
 -- The planner's promise settles its answer and every departure.
-use mathlib.Core.Path.{sym, ◌∙◌}
+use Rattle.std.proofs.Common.{sym, ◌∙◌}
 use Rattle.promises.specs.Settles.{Settles, Leaves}
 use Rattle.rules.proofs.Answers.{same_answer}
 use Rattle.planner.proofs.plan.Reads as plan

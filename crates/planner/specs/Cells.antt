@@ -1,13 +1,15 @@
 -- The cells of the tables, by what is chosen from the clocks that a cell stands for.
 -- A cell of `counts` stands for two clocks at second 0, one of `changes` for two at each number of changes of station.
-use Rattle.std.specs.Prelude.{Bool, true, cond, List, [], ◌∷◌, ◌≡◌, ℕ, ◌+◌, ◌-◌, ◌*◌, ◌≤◌, ◌<◌, T, eqb, ℤ, pos, ◌-ℤ◌, get_or}
+use Rattle.std.specs.Prelude.{cond, List, [], ◌∷◌, ◌≡◌, ℕ, ◌+◌, ◌-◌, ◌*◌, ◌≤◌, ◌<◌, T, eqb, ℤ, pos, ◌-ℤ◌, get_or}
 use Rattle.std.specs.Int.{w64}
 use Rattle.std.proofs.Common.{SFits}
 use Rattle.rules.specs.declared.Timing.{Timing}
-use Rattle.rules.specs.Line.{one, two, good_timing, gap}
+use Rattle.rules.specs.declared.Station.{Station}
+use Rattle.rules.specs.declared.Station.TheVariants.{One as one, Two as two}
+use Rattle.rules.specs.Line.{good_timing, gap}
 use Rattle.rules.specs.Objectives.{Objective, aim_of}
-use Rattle.planner.specs.declared.clock.Clock.{Clock}
 use Rattle.planner.specs.declared.clock.Terms.{Terms}
+use Rattle.planner.specs.Clock.{cell_clock}
 use Rattle.planner.specs.Rests.{Table, entry, side, Chooses}
 
 -- what a train costs more for a second later, and what trains together do
@@ -34,32 +36,9 @@ pub record Rates (objective : ℕ) (x y : List ℤ) (ones twos : ℕ) (counts : 
   pub second : 0 < twos → Slopes objective y
   pub fits : SFits w64 (rate objective x y ones twos counts)
 
--- the clock of a cell, and a clock as if its last train were a given station's
-unfoldable pub cell_clock : ℕ → ℕ → ℕ → ℕ → Clock
-cell_clock departure changes ones twos = record {
-  begun = true;
-  one = true;
-  departure = departure;
-  changes = changes;
-  ones = ones;
-  twos = twos;
-  value = pos 0;
-}
-
-unfoldable pub after : Bool → Clock → Clock
-after is_one c = record {
-  begun = c.begun;
-  one = is_one;
-  departure = c.departure;
-  changes = c.changes;
-  ones = c.ones;
-  twos = c.twos;
-  value = c.value;
-}
-
 -- a cell begins with n pairs: a value after station 1's train, and one after station 2's
-unfoldable pub Pairs : ℕ → (ℕ → Bool → ℤ) → List ℤ → Type 0
-Pairs n value cell = (k : ℕ) → k < n → (is_one : Bool) → get_or cell (2 * k + side is_one) (pos 0) ≡ value k is_one
+unfoldable pub Pairs : ℕ → (ℕ → Station → ℤ) → List ℤ → Type 0
+Pairs n value cell = (k : ℕ) → k < n → (s : Station) → get_or cell (2 * k + side s) (pos 0) ≡ value k s
 
 -- how many trains are gone
 unfoldable pub gone_of : Terms → ℕ → ℕ → ℕ
@@ -73,5 +52,5 @@ pub record Changes (w : Terms) (x y : List ℤ) (ones twos : ℕ) (counts change
   pub timed : T (good_timing w.timing)
   pub all_few : w.ones + w.twos ≤ 24
   pub few : ones + twos ≤ w.ones + w.twos
-  pub chooses : (k : ℕ) → k < gone_of w ones twos → (is_one : Bool)
-      → Chooses w (after is_one (cell_clock (seconds w.timing k (gone_of w ones twos)) k ones twos)) x y counts changes
+  pub chooses : (k : ℕ) → k < gone_of w ones twos → (s : Station)
+      → Chooses w (cell_clock s (seconds w.timing k (gone_of w ones twos)) k ones twos) x y counts changes

@@ -1,18 +1,20 @@
 -- A section's day from a running clock, as the theory has it: the trains left, the earliest seconds, the best of the rest.
 -- `Running` is what is known of a clock on its way, and `Tables` that the tables hold the best of every rest up to a place.
-use Rattle.std.specs.Prelude.{Bool, true, false, cond, List, [], ◌++◌, map, ◌≡◌, ℕ, ◌+◌, ◌-◌, ◌*◌, ◌≤◌, ◌<◌, ℤ, length, get_or, drop}
-use Rattle.rules.specs.Line.{Station, one, two, gap}
+use Rattle.std.specs.Prelude.{true, false, Option, None, Some, List, [], ◌++◌, map, ◌≡◌, ℕ, ◌+◌, ◌-◌, ◌*◌, ◌≤◌, ◌<◌, ℤ, length, get_or, drop}
+use Rattle.rules.specs.declared.Station.{Station}
+use Rattle.rules.specs.declared.Station.TheVariants.{One as one, Two as two}
+use Rattle.rules.specs.Line.{gap}
 use Rattle.rules.specs.Trains.{Section, aim, count_at, Train, train_at}
 use Rattle.rules.specs.Orders.{station_order}
 use Rattle.theory.specs.Orders.{best}
 use Rattle.best.specs.Instance.{line}
 use Rattle.best.proofs.Objectives.{fair_aim}
-use Rattle.line.specs.Station.{station}
 use Rattle.planner.specs.declared.clock.Clock.{Clock}
+use Rattle.planner.specs.declared.clock.Departure.{Departure}
 use Rattle.planner.specs.declared.clock.Terms.{Terms}
-use Rattle.planner.specs.Clock.{alone, next}
+use Rattle.planner.specs.Clock.{by_station, second_of, cell_clock, alone, next}
 use Rattle.planner.specs.Rests.{Table, entry, side, day}
-use Rattle.planner.specs.Cells.{rises, cell_clock, after, gone_of, seconds}
+use Rattle.planner.specs.Cells.{rises, gone_of, seconds}
 
 -- what is planned for, of a section
 unfoldable pub terms_of : Section → Terms
@@ -26,15 +28,15 @@ left S s n = drop (count_at S s - n) (station_order S s)
 unfoldable pub turn : Section → Station → ℕ → Train
 turn S s n = get_or (station_order S s) (count_at S s - n) (train_at S s 0)
 
-abbrev pub next_of : Section → Clock → Bool → Train
-next_of S c is_one = turn S (station is_one) (cond is_one c.ones c.twos)
+abbrev pub next_of : Section → Clock → Station → Train
+next_of S c s = turn S s (by_station s c.ones c.twos)
 
 -- the clock once a station's next train has left, with that train's cost alone, and with the value so far
-abbrev pub sends : Section → Clock → Bool → Clock
-sends S c is_one = alone (terms_of S) c is_one (next_of S c is_one).figures
+abbrev pub sends : Section → Clock → Station → Clock
+sends S c s = alone (terms_of S) c s (next_of S c s).figures
 
-abbrev pub goes_on : Section → Clock → Bool → Clock
-goes_on S c is_one = next (terms_of S) c is_one (next_of S c is_one).figures
+abbrev pub goes_on : Section → Clock → Station → Clock
+goes_on S c s = next (terms_of S) c s (next_of S c s).figures
 
 -- the figures of the trains left at both stations
 abbrev pub figures_left : Section → ℕ → ℕ → List (List ℤ)
@@ -44,8 +46,12 @@ figures_left S ones twos = map (λ x. x.figures) (left S one ones) ++ map (λ x.
 unfoldable pub since : Section → Station → ℕ → Train → ℕ
 since S s departure x = departure + gap S.timing s x.station
 
+abbrev pub earliest_after : Section → Option Departure → Train → ℕ
+earliest_after S None x = 0
+earliest_after S (Some last) x = since S last.station last.second x
+
 unfoldable pub earliest : Section → Clock → Train → ℕ
-earliest S c x = cond c.begun (since S (station c.one) c.departure x) 0
+earliest S c x = earliest_after S c.last x
 
 -- the theory's best of the rest, as a number: from these seconds, where so many trains are left
 unfoldable pub rest_from : Section → (Train → ℕ) → ℕ → ℕ → ℤ
@@ -59,8 +65,8 @@ abbrev pub comes_to : Section → Clock → ℤ
 comes_to S c = day S.objective c (rest S c)
 
 -- a clock that has come to a departure
-abbrev pub at : Bool → ℕ → ℕ → ℕ → Clock
-at is_one departure ones twos = after is_one (cell_clock departure 0 ones twos)
+abbrev pub at : Station → ℕ → ℕ → ℕ → Clock
+at s departure ones twos = cell_clock s departure 0 ones twos
 
 -- how many trains are gone
 abbrev pub gone : Section → Clock → ℕ
@@ -70,19 +76,19 @@ gone S c = gone_of (terms_of S) c.ones c.twos
 pub record Running (S : Section) (c : Clock) : Type 0 where
   pub ones_few : c.ones ≤ count_at S one
   pub twos_few : c.twos ≤ count_at S two
-  pub soon : c.departure ≤ gone S c * 10000
+  pub soon : second_of c.last ≤ gone S c * 10000
   pub few : c.changes ≤ gone S c
   -- before the first train all are left; after it the changes of station, with rows, tell the departure
-  pub unbegun : c.begun ≡ false → (gone S c ≡ 0) × (c.changes ≡ 0)
-  pub told : (aim S).listed ≡ true → c.begun ≡ true
-      → (c.changes < gone S c) × (c.departure ≡ seconds S.timing c.changes (gone S c))
+  pub unbegun : c.last ≡ None → (gone S c ≡ 0) × (c.changes ≡ 0)
+  pub told : (aim S).listed ≡ true → (last : Departure) → c.last ≡ Some last
+      → (c.changes < gone S c) × (last.second ≡ seconds S.timing c.changes (gone S c))
 
 -- the cell of the tables where so many trains are left holds the best of the rest
 pub record Right (S : Section) (counts changes : Table) (ones twos : ℕ) : Type 0 where
-  pub counted : (aim S).listed ≡ false → (is_one : Bool) → entry counts ones twos (side is_one) ≡ rest S (at is_one 0 ones twos)
+  pub counted : (aim S).listed ≡ false → (s : Station) → entry counts ones twos (side s) ≡ rest S (at s 0 ones twos)
   pub risen : (aim S).listed ≡ false → entry counts ones twos 2 ≡ rises (aim S) (figures_left S ones twos)
-  pub changed : (aim S).listed ≡ true → (k : ℕ) → k < gone_of (terms_of S) ones twos → (is_one : Bool)
-      → entry changes ones twos (2 * k + side is_one) ≡ rest S (at is_one (seconds S.timing k (gone_of (terms_of S) ones twos)) ones twos)
+  pub changed : (aim S).listed ≡ true → (k : ℕ) → k < gone_of (terms_of S) ones twos → (s : Station)
+      → entry changes ones twos (2 * k + side s) ≡ rest S (at s (seconds S.timing k (gone_of (terms_of S) ones twos)) ones twos)
 
 -- a table of n rows of n cells
 pub record Square (n : ℕ) (table : Table) : Type 0 where

@@ -8,6 +8,8 @@ pub mod Rests
 pub mod Cells
 pub mod Day
 pub mod Planning
+pub mod OneProof
+pub mod Filled
 pub mod Walk
 pub mod Writer
 pub mod Promise

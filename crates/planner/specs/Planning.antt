@@ -1,7 +1,7 @@
 -- What the planner knows of a call that is not refused, once the stations are in order.
 -- `asked_by` is the section that the terms and the two lists make.
 use Rattle.std.specs.Prelude.{List, ◌≡◌, ℕ, ℤ}
-use Rattle.rules.specs.Line.{one, two}
+use Rattle.rules.specs.declared.Station.TheVariants.{One as one, Two as two}
 use Rattle.rules.specs.Trains.{Section, asked}
 use Rattle.best.proofs.Accepted.{Accepted}
 use Rattle.planner.specs.declared.clock.Terms.{Terms}

@@ -1,14 +1,17 @@
 -- How the best of the rest comes of the tables: what they hold for a clock, and the choice between the two next trains.
 -- That this is the theory's best of the rest, where the tables hold it of every smaller rest, is shown in proofs/.
-use Rattle.std.specs.Prelude.{Bool, true, false, cond, List, [], ◌≡◌, ℕ, ◌+◌, ◌*◌, ◌≤◌, ◌<◌, T, eqb, ℤ, pos, ◌+ℤ◌, ◌*ℤ◌, get_or}
+use Rattle.std.specs.Prelude.{true, false, cond, Option, None, Some, List, [], ◌≡◌, ℕ, ◌+◌, ◌*◌, ◌≤◌, ◌<◌, T, eqb, ℤ, pos, ◌+ℤ◌, ◌*ℤ◌, get_or}
 use Rattle.std.specs.Int.Signed.{le_z, mag}
 use Rattle.std.specs.Int.{w64}
 use Rattle.std.proofs.Common.{SFits}
+use Rattle.rules.specs.declared.Station.{Station}
+use Rattle.rules.specs.declared.Station.TheVariants.{One as one, Two as two}
 use Rattle.rules.specs.Figures.{within}
 use Rattle.rules.specs.Objectives.{aim_of}
 use Rattle.planner.specs.declared.clock.Clock.{Clock}
+use Rattle.planner.specs.declared.clock.Departure.{Departure}
 use Rattle.planner.specs.declared.clock.Terms.{Terms}
-use Rattle.planner.specs.Clock.{Near, alone}
+use Rattle.planner.specs.Clock.{by_station, second_of, Near, alone}
 
 -- by trains left at station 1, then at station 2, a cell each
 abbrev pub Table : Type 0
@@ -18,22 +21,27 @@ unfoldable pub entry : Table → ℕ → ℕ → ℕ → ℤ
 entry table ones twos k = get_or (get_or (get_or table ones []) twos []) k (pos 0)
 
 -- after a train of station 1, or of station 2
-unfoldable pub side : Bool → ℕ
-side is_one = cond is_one 0 1
+abbrev pub side : Station → ℕ
+side one = 0
+side two = 1
 
--- the best of the rest from a clock: for rows by the changes of station,
--- else the best from second 0, and what the last departure adds to it
+-- the best of the rest from a clock, after its last departure: for rows by the changes of station,
+-- else the best from second 0, and what the departure adds to it
+abbrev pub looked_after : ℕ → Option Departure → Clock → Table → Table → ℤ
+looked_after objective None c counts changes = pos 0
+looked_after objective (Some last) c counts changes =
+    cond (aim_of objective).listed (entry changes c.ones c.twos (2 * c.changes + side last.station))
+    (entry counts c.ones c.twos (side last.station) +ℤ entry counts c.ones c.twos 2 *ℤ pos last.second)
+
 unfoldable pub looked_up : ℕ → Clock → Table → Table → ℤ
-looked_up objective c counts changes =
-    cond (aim_of objective).listed (entry changes c.ones c.twos (2 * c.changes + side c.one))
-    (entry counts c.ones c.twos (side c.one) +ℤ entry counts c.ones c.twos 2 *ℤ pos c.departure)
+looked_up objective c counts changes = looked_after objective c.last c counts changes
 
 -- the tables have the entry, and it is small enough to be counted with
 pub record Held (objective : ℕ) (c : Clock) (counts changes : Table) : Type 0 where
   pub ones_few : c.ones ≤ 48
   pub twos_few : c.twos ≤ 48
   pub rows : (aim_of objective).listed ≡ true → (c.ones ≤ 12) × (c.twos ≤ 12) × (c.changes ≤ 23)
-  pub soon : c.departure ≤ 1010000
+  pub soon : second_of c.last ≤ 1010000
   pub rises : (aim_of objective).listed ≡ false → T (within (pos 0) (pos 1000000) (entry counts c.ones c.twos 2))
   pub small : mag (looked_up objective c counts changes) ≤ 10000000000000
 
@@ -45,16 +53,16 @@ day objective c rest = cond (eqb c.ones 0) (cond (eqb c.twos 0) c.value joined) 
     joined = (aim_of objective).joined c.value rest
 
 -- what the rest comes to if a station's next train, with these figures, leaves first
-unfoldable pub through : Terms → Clock → Bool → List ℤ → Table → Table → ℤ
-through w c is_one x counts changes =
-    let after : Clock = alone w c is_one x in
+unfoldable pub through : Terms → Clock → Station → List ℤ → Table → Table → ℤ
+through w c s x counts changes =
+    let after : Clock = alone w c s x in
     day w.objective after (looked_up w.objective after counts changes)
 
-pub record Sends (w : Terms) (c : Clock) (is_one : Bool) (x : List ℤ) (counts changes : Table) : Type 0 where
+pub record Sends (w : Terms) (c : Clock) (s : Station) (x : List ℤ) (counts changes : Table) : Type 0 where
   pub near : Near w.timing c
-  pub some : 0 < cond is_one c.ones c.twos
-  pub held : Held w.objective (alone w c is_one x) counts changes
-  pub fits : SFits w64 (through w c is_one x counts changes)
+  pub some : 0 < by_station s c.ones c.twos
+  pub held : Held w.objective (alone w c s x) counts changes
+  pub fits : SFits w64 (through w c s x counts changes)
 
 -- the smaller of what comes of sending either station's next train
 unfoldable pub lesser : ℤ → ℤ → ℤ
@@ -65,11 +73,11 @@ best_by w c x y counts changes =
     cond (eqb c.ones 0) (cond (eqb c.twos 0) (pos 0) second) (cond (eqb c.twos 0) first (lesser first second))
   where
     first : ℤ
-    first = through w c true x counts changes
+    first = through w c one x counts changes
 
     second : ℤ
-    second = through w c false y counts changes
+    second = through w c two y counts changes
 
 pub record Chooses (w : Terms) (c : Clock) (x y : List ℤ) (counts changes : Table) : Type 0 where
-  pub first : 0 < c.ones → Sends w c true x counts changes
-  pub second : 0 < c.twos → Sends w c false y counts changes
+  pub first : 0 < c.ones → Sends w c one x counts changes
+  pub second : 0 < c.twos → Sends w c two y counts changes

@@ -1,13 +1,16 @@
 // The cells of the tables: for so many trains left at each station, the best of the rest after a train of either.
-ghost use Rattle.std.specs.Prelude.{Bool, true, false, [], ◌∷◌, ◌≡◌, T, pos, get_or, ◌<◌, ◌≤◌};
+ghost use Rattle.std.specs.Prelude.{[], ◌∷◌, ◌≡◌, T, pos, get_or, ◌<◌, ◌≤◌};
+ghost use Rattle.rules.specs.declared.Station.{Station as Place};
+ghost use Rattle.rules.specs.declared.Station.TheVariants.{One as one, Two as two};
 ghost use Rattle.rules.specs.Line.{good_timing};
 ghost use Rattle.rules.specs.Objectives.{aim_of};
+ghost use Rattle.planner.specs.Clock.{cell_clock};
 ghost use Rattle.planner.specs.Rests.{best_by, Chooses};
-ghost use Rattle.planner.specs.Cells.{slope, Slopes, rate, Rates, after, cell_clock, seconds, Pairs, gone_of, Changes};
+ghost use Rattle.planner.specs.Cells.{slope, Slopes, rate, Rates, seconds, Pairs, gone_of, Changes};
 
-use crate::clock::{Clock, Terms};
-use crate::rests;
-use rules::Timing;
+use crate::clock::{Clock, Departure, Terms};
+use crate::rests::{Next, Rests};
+use rules::{Station, Timing};
 
 // How much more a train costs for each second that it is later, under objectives 1 and 2.
 #[tactic(auto, unfolding(crate::specs::Cells::slope))]
@@ -20,120 +23,84 @@ fn slope(objective: u32, figures: &[i32]) -> i64
 
 // How much more the rest costs for each second that all of it is later, under objectives 1 and 2.
 #[tactic(auto, using(costs::proofs::Held::held_fits), unfolding(crate::specs::Cells::rate, crate::specs::Rests::entry))]
-fn rate(
-    objective: u32,
-    x: &[i32],
-    y: &[i32],
-    ones: usize,
-    twos: usize,
-    counts: &[[[i64; 3]; 49]; 49],
-) -> i64
-    requires { Rates objective x.now y.now ones twos counts.now }
-    ensures { result ≡ rate objective x.now y.now ones twos counts.now }
+fn rate(objective: u32, next: Next, ones: usize, twos: usize, rests: Rests) -> i64
+    requires { Rates objective next.one.now next.two.now ones twos rests.counts.now }
+    ensures { result ≡ rate objective next.entry.one.now next.entry.two.now ones twos rests.entry.counts.now }
 {
     if 0 < ones {
-        return costs::joined(objective, slope(objective, x), counts[ones - 1][twos][2]);
+        return costs::joined(
+            objective,
+            slope(objective, next.one),
+            rests.counts[ones - 1][twos][2],
+        );
     }
     if 0 < twos {
-        return costs::joined(objective, slope(objective, y), counts[ones][twos - 1][2]);
+        return costs::joined(
+            objective,
+            slope(objective, next.two),
+            rests.counts[ones][twos - 1][2],
+        );
     }
     0
 }
 
-// The best of the rest from a clock, if its last train was station 1's, and if it was station 2's.
-#[tactic(auto, unfolding(crate::specs::Cells::after))]
+// The best of the rest after a departure at a second, if its train was station 1's, and if it was station 2's.
 fn pair(
     terms: Terms,
-    clock: Clock,
-    x: &[i32],
-    y: &[i32],
-    counts: &[[[i64; 3]; 49]; 49],
-    changes: &[[[i64; 48]; 13]; 13],
+    next: Next,
+    second: u32,
+    changes: usize,
+    ones: usize,
+    twos: usize,
+    rests: Rests,
 ) -> [i64; 2]
-    requires { (one : Bool) → Chooses terms (after one clock) x.now y.now counts.now changes.now }
-    ensures { result ≡ best_by terms (after true clock) x.now y.now counts.now changes.now ∷ best_by terms (after false clock) x.now y.now counts.now changes.now ∷ [] }
+    requires { (s : Place) → Chooses terms (cell_clock s second changes ones twos) next.one.now next.two.now rests.counts.now rests.changes.now }
+    ensures { result ≡ best_by terms (cell_clock one second changes ones twos) next.entry.one.now next.entry.two.now rests.entry.counts.now rests.entry.changes.now ∷ best_by terms (cell_clock two second changes ones twos) next.entry.one.now next.entry.two.now rests.entry.counts.now rests.entry.changes.now ∷ [] }
 {
-    let mut last = clock;
-    last.one = true;
-    let first = rests::best(terms, last, x, y, counts, changes);
-    last.one = false;
-    let second = rests::best(terms, last, x, y, counts, changes);
-    [first, second]
+    [Station::One, Station::Two].map(|station| {
+        let clock = Clock::of_cell(Departure { station, second }, changes, ones, twos);
+        rests.best(terms, clock, next)
+    })
 }
 
 // A cell of `counts`: the best from second 0 after station 1's train and after station 2's, and how it rises with the second.
-#[tactic(auto, unfolding(crate::specs::Cells::cell_clock))]
-pub fn count_cell(
-    terms: Terms,
-    x: &[i32],
-    y: &[i32],
-    ones: usize,
-    twos: usize,
-    counts: &[[[i64; 3]; 49]; 49],
-    changes: &[[[i64; 48]; 13]; 13],
-) -> [i64; 3]
-    requires chooses { (one : Bool) → Chooses terms (after one (cell_clock 0 0 ones twos)) x.now y.now counts.now changes.now }
-    requires rates { Rates terms.objective x.now y.now ones twos counts.now }
-    ensures pairs { Pairs 1 (λ k one. best_by terms (after one (cell_clock 0 0 ones twos)) x.now y.now counts.now changes.now) result }
-    ensures rises { get_or result 2 (pos 0) ≡ rate terms.objective x.now y.now ones twos counts.now }
+pub fn count_cell(terms: Terms, next: Next, ones: usize, twos: usize, rests: Rests) -> [i64; 3]
+    requires chooses { (s : Place) → Chooses terms (cell_clock s 0 0 ones twos) next.one.now next.two.now rests.counts.now rests.changes.now }
+    requires rates { Rates terms.objective next.one.now next.two.now ones twos rests.counts.now }
+    ensures pairs { Pairs 1 (λ k s. best_by terms (cell_clock s 0 0 ones twos) next.entry.one.now next.entry.two.now rests.entry.counts.now rests.entry.changes.now) result }
+    ensures rises { get_or result 2 (pos 0) ≡ rate terms.objective next.entry.one.now next.entry.two.now ones twos rests.entry.counts.now }
 {
-    let clock = Clock {
-        begun: true,
-        one: true,
-        departure: 0,
-        changes: 0,
-        ones,
-        twos,
-        value: 0,
-    };
-    let values = pair(terms, clock, x, y, counts, changes);
-    let first = values[0];
-    let second = values[1];
+    let [first, second] = pair(terms, next, 0, 0, ones, twos, rests);
     [
         first,
         second,
-        rate(terms.objective, x, y, ones, twos, counts),
+        rate(terms.objective, next, ones, twos, rests),
     ]
 }
 
 // The departure of the last of so many trains, with so many changes of station among them.
+// The casts keep a number below 24; `try_from` would have an error that cannot happen.
 #[tactic(auto, unfolding(crate::specs::Cells::seconds))]
 fn seconds(timing: Timing, changes: usize, gone: usize) -> u32
     requires { T (good_timing timing) × (changes < gone) × (gone ≤ 24) }
     ensures { result ≡ seconds timing changes gone }
 {
     let same = gone - 1 - changes;
-    changes as u32 * line::gap(timing, true, false) + same as u32 * line::gap(timing, true, true)
+    changes as u32 * line::gap(timing, Station::One, Station::Two)
+        + same as u32 * line::gap(timing, Station::One, Station::One)
 }
 
 // A cell of `changes`: for each number of changes among the trains gone, the best after station 1's train and after station 2's.
-pub fn change_cell(
-    terms: Terms,
-    x: &[i32],
-    y: &[i32],
-    ones: usize,
-    twos: usize,
-    counts: &[[[i64; 3]; 49]; 49],
-    changes: &[[[i64; 48]; 13]; 13],
-) -> [i64; 48]
-    requires { Changes terms x.now y.now ones twos counts.now changes.now }
-    ensures { Pairs (gone_of terms ones twos) (λ k one. best_by terms (after one (cell_clock (seconds terms.timing k (gone_of terms ones twos)) k ones twos)) x.now y.now counts.now changes.now) result }
+pub fn change_cell(terms: Terms, next: Next, ones: usize, twos: usize, rests: Rests) -> [i64; 48]
+    requires { Changes terms next.one.now next.two.now ones twos rests.counts.now rests.changes.now }
+    ensures { Pairs (gone_of terms ones twos) (λ k s. best_by terms (cell_clock s (seconds terms.timing k (gone_of terms ones twos)) k ones twos) next.entry.one.now next.entry.two.now rests.entry.counts.now rests.entry.changes.now) result }
 {
     let gone = terms.ones + terms.twos - (ones + twos);
     let mut cell = [0i64; 48];
     for k in 0..gone {
-        let clock = Clock {
-            begun: true,
-            one: true,
-            departure: seconds(terms.timing, k, gone),
-            changes: k,
-            ones,
-            twos,
-            value: 0,
-        };
-        let values = pair(terms, clock, x, y, counts, changes);
-        cell[2 * k] = values[0];
-        cell[2 * k + 1] = values[1];
+        let second = seconds(terms.timing, k, gone);
+        let values = pair(terms, next, second, k, ones, twos, rests);
+        cell[2 * k..2 * k + 2].copy_from_slice(&values);
     }
     cell
 }

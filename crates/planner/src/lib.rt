@@ -3,93 +3,90 @@
 #![tactic(auto)]
 
 ghost use Rattle.std.specs.Prelude.{[], ◌≡◌, ◌+◌, length};
-ghost use Rattle.rules.specs.Trains.{asked};
+ghost use Rattle.rules.specs.Trains.{asked, told};
 ghost use Rattle.rules.specs.Orders.{best_value, plan as plan_of};
 ghost use Rattle.rules.specs.Refusals.{refusals};
 ghost use Rattle.rules.specs.Answers.{says, planner_answers, planner_leaves};
-ghost use Rattle.planner.specs.Day.{Tables};
-ghost use Rattle.planner.specs.Planning.{asked_by, Planning};
+ghost use Rattle.refusals.specs.Reasons.{outcome_tells};
+ghost use Rattle.planner.specs.Filled.{section_of};
 ghost use Rattle.planner.specs.Promise.{BestLeft};
 
 use clock::Terms;
-use rules::{Answer, Outcome, Timing};
+use day::{Day, Queue};
+use refusals::Reason;
+use rests::{Changes, Counts, Rests};
+use rules::{Answer, Section, Timing};
+use walk::Walk;
 
 mod cells;
 mod clock;
+mod day;
 mod order;
 mod rests;
 mod tables;
-mod trains;
 mod walk;
 mod writer;
 
-// The best value of a section whose stations are in order, and its plan, written. The tables are lent empty.
-fn scheduled(
-    terms: Terms,
-    one: &[i32],
-    two: &[i32],
-    first: &[usize; 48],
-    second: &[usize; 48],
-    counts: &mut [[[i64; 3]; 49]; 49],
-    changes: &mut [[[i64; 48]; 13]; 13],
-    departures: &mut [u32],
-) -> i64
-    requires planning { Planning terms one.now two.now first.now second.now }
-    requires tables { Tables (asked_by terms one.now two.now) counts.old changes.old 0 }
-    requires one_each { length departures.old ≡ terms.ones + terms.twos }
-    ensures value { result ≡ best_value (asked_by terms one.now two.now) }
-    ensures leaves { departures.new ≡ plan_of (asked_by terms one.now two.now) }
+// The best value of a day, and its plan, written.
+fn scheduled(day: Day, departures: &mut [u32]) -> i64
+    requires { length departures.old ≡ day.terms.ones + day.terms.twos }
+    ensures value { result ≡ best_value (section_of day.entry) }
+    ensures leaves { departures.new ≡ plan_of (section_of day.entry) }
 {
-    tables::fill(terms, one, two, first, second, counts, changes);
-    let goal = walk::goal(terms, one, two, first, second, counts, changes);
-    let mut times1: [u32; 48] = [0; 48];
-    let mut times2: [u32; 48] = [0; 48];
-    walk::walk(
-        terms,
-        one,
-        two,
-        first,
-        second,
-        goal,
-        counts,
-        changes,
-        &mut times1,
-        &mut times2,
-    );
-    writer::write_both(departures, terms.ones, first, second, &times1, &times2);
+    let mut counts: Counts = [[[0; 3]; 49]; 49];
+    let mut changes: Changes = [[[0; 48]; 13]; 13];
+    tables::fill(&day, &mut counts, &mut changes);
+    let rests = Rests {
+        counts: &counts,
+        changes: &changes,
+    };
+    let walk = Walk { day: &day, rests };
+    let goal = walk.goal();
+    let times = walk.times(goal);
+    writer::write_both(departures, &day, &times);
     goal
 }
 
-// The best value of a call of which nothing is refused, and its plan, written.
-fn planned(objective: u32, timing: Timing, one: &[i32], two: &[i32], departures: &mut [u32]) -> i64
-    requires { refusals (asked objective timing one.now two.now) (length departures.old) ≡ [] }
-    ensures value { result ≡ best_value (asked objective timing one.now two.now) }
-    ensures leaves { departures.new ≡ plan_of (asked objective timing one.now two.now) }
+// The best value of a section of which nothing is refused, and its plan, written.
+#[tactic(auto, using(refusals::proofs::Table::numbers_positive, crate::proofs::Beginning::all_places))]
+fn planned(section: Section, departures: &mut [u32]) -> i64
+    requires { refusals (told section) (length departures.old) ≡ [] }
+    ensures value { result ≡ best_value (told section.entry) }
+    ensures leaves { departures.new ≡ plan_of (told section.entry) }
 {
+    let objective = section.objective;
     let numbers = costs::numbers(objective);
-    let terms = Terms {
-        objective,
-        timing,
-        ones: one.len() / numbers,
-        twos: two.len() / numbers,
+    let day = Day {
+        terms: Terms {
+            objective,
+            timing: section.timing,
+            ones: section.one.len() / numbers,
+            twos: section.two.len() / numbers,
+        },
+        one: Queue {
+            list: section.one,
+            places: order::order(objective, section.one),
+        },
+        two: Queue {
+            list: section.two,
+            places: order::order(objective, section.two),
+        },
     };
-    let first = order::order(objective, one);
-    let second = order::order(objective, two);
-    let mut counts: [[[i64; 3]; 49]; 49] = [[[0; 3]; 49]; 49];
-    let mut changes: [[[i64; 48]; 13]; 13] = [[[0; 48]; 13]; 13];
-    scheduled(
-        terms,
-        one,
-        two,
-        &first,
-        &second,
-        &mut counts,
-        &mut changes,
-        departures,
-    )
+    scheduled(day, departures)
+}
+
+// The best value and its plan, written; or the first reason to refuse the call, with nothing written.
+#[tactic(auto, using(crate::proofs::Promise::refused_answers, crate::proofs::Promise::planned_answers, crate::proofs::Promise::planned_leaves, refusals::proofs::Reasons::none_found))]
+fn outcome(section: Section, departures: &mut [u32]) -> Result<i64, Reason>
+    ensures answers { outcome_tells result ≡ planner_answers (told section.entry) (length departures.old) }
+    ensures leaves { departures.new ≡ planner_leaves (told section.entry) departures.old }
+{
+    refusals::refusal(section, departures.len())?;
+    Ok(planned(section, departures))
 }
 
 // Plans a section: sets every departure, in train number order, and answers the best value; or answers the first refusal that applies.
+#[tactic(auto, using(crate::proofs::Promise::best_left))]
 pub fn plan(
     objective: u32,
     timing: Timing,
@@ -101,12 +98,11 @@ pub fn plan(
     ensures leaves { departures.new ≡ planner_leaves (asked objective timing one.now two.now) departures.old }
     ensures best_left { BestLeft (asked objective timing one.now two.now) result departures.new }
 {
-    let call = refusals::refusal(objective, timing, one, two, departures.len());
-    let outcome = call.outcome;
-    let Outcome::Value(_) = outcome else {
-        return call;
+    let section = Section {
+        objective,
+        timing,
+        one,
+        two,
     };
-    Answer {
-        outcome: Outcome::Value(planned(objective, timing, one, two, departures)),
-    }
+    refusals::answered(outcome(section, departures))
 }

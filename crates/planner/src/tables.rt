@@ -1,78 +1,52 @@
 // The tables of best values: for every number of trains left at station 1 and at station 2, the best of the rest.
-// `counts` serves objectives 1 and 2, `changes` objectives 3 and 4, where the changes of station so far tell the second.
 ghost use Rattle.std.specs.Prelude.{◌+◌, ◌*◌, ◌≤◌};
 ghost use Rattle.planner.specs.Day.{Tables};
-ghost use Rattle.planner.specs.Planning.{asked_by, Planning};
+ghost use Rattle.planner.specs.Filled.{section_of};
 
-use crate::clock::Terms;
-use crate::{cells, trains};
+use crate::cells;
+use crate::day::Day;
+use crate::rests::{Changes, Counts, Next, Rests};
+use rules::Station;
 
 // Fills the cell where so many trains are left, once all before it are filled.
-fn fill_cell(
-    terms: Terms,
-    one: &[i32],
-    two: &[i32],
-    first: &[usize; 48],
-    second: &[usize; 48],
-    ones: usize,
-    twos: usize,
-    counts: &mut [[[i64; 3]; 49]; 49],
-    changes: &mut [[[i64; 48]; 13]; 13],
-)
-    requires planning { Planning terms one.now two.now first.now second.now }
-    requires within { (ones ≤ terms.ones) × (twos ≤ terms.twos) }
-    requires tables { Tables (asked_by terms one.now two.now) counts.old changes.old (ones * 49 + twos) }
-    ensures { Tables (asked_by terms one.now two.now) counts.new changes.new (ones * 49 + twos + 1) }
+#[tactic(auto, using(crate::proofs::Placing::ones_most, crate::proofs::Placing::twos_most))]
+fn fill_cell(day: &Day, ones: usize, twos: usize, counts: &mut Counts, changes: &mut Changes)
+    requires within { (ones ≤ day.now.terms.ones) × (twos ≤ day.now.terms.twos) }
+    requires tables { Tables (section_of day.now) counts.old changes.old (ones * 49 + twos) }
+    ensures { Tables (section_of day.now) counts.new changes.new (ones * 49 + twos + 1) }
 {
-    let x = trains::next_train(terms.objective, one, first, terms.ones, ones);
-    let y = trains::next_train(terms.objective, two, second, terms.twos, twos);
+    let terms = day.terms;
+    let next = Next {
+        one: day.next_train(Station::One, ones),
+        two: day.next_train(Station::Two, twos),
+    };
+    let rests = Rests { counts, changes };
     if costs::listed(terms.objective) {
-        let cell = cells::change_cell(terms, x, y, ones, twos, counts, changes);
+        let cell = cells::change_cell(terms, next, ones, twos, rests);
         changes[ones][twos] = cell;
     } else {
-        let cell = cells::count_cell(terms, x, y, ones, twos, counts, changes);
+        let cell = cells::count_cell(terms, next, ones, twos, rests);
         counts[ones][twos] = cell;
     }
 }
 
 // Fills the row where so many trains are left at station 1, once the rows before it are filled.
-fn fill_row(
-    terms: Terms,
-    one: &[i32],
-    two: &[i32],
-    first: &[usize; 48],
-    second: &[usize; 48],
-    ones: usize,
-    counts: &mut [[[i64; 3]; 49]; 49],
-    changes: &mut [[[i64; 48]; 13]; 13],
-)
-    requires planning { Planning terms one.now two.now first.now second.now }
-    requires within { ones ≤ terms.ones }
-    requires tables { Tables (asked_by terms one.now two.now) counts.old changes.old (ones * 49) }
-    ensures { Tables (asked_by terms one.now two.now) counts.new changes.new ((ones + 1) * 49) }
+fn fill_row(day: &Day, ones: usize, counts: &mut Counts, changes: &mut Changes)
+    requires within { ones ≤ day.now.terms.ones }
+    requires tables { Tables (section_of day.now) counts.old changes.old (ones * 49) }
+    ensures { Tables (section_of day.now) counts.new changes.new ((ones + 1) * 49) }
 {
-    let end = terms.twos + 1;
-    for twos in 0..end {
-        fill_cell(terms, one, two, first, second, ones, twos, counts, changes);
+    for twos in 0..=day.terms.twos {
+        fill_cell(day, ones, twos, counts, changes);
     }
 }
 
 // Fills the tables.
-pub fn fill(
-    terms: Terms,
-    one: &[i32],
-    two: &[i32],
-    first: &[usize; 48],
-    second: &[usize; 48],
-    counts: &mut [[[i64; 3]; 49]; 49],
-    changes: &mut [[[i64; 48]; 13]; 13],
-)
-    requires planning { Planning terms one.now two.now first.now second.now }
-    requires tables { Tables (asked_by terms one.now two.now) counts.old changes.old 0 }
-    ensures { Tables (asked_by terms one.now two.now) counts.new changes.new ((terms.ones + 1) * 49) }
+pub fn fill(day: &Day, counts: &mut Counts, changes: &mut Changes)
+    requires { Tables (section_of day.now) counts.old changes.old 0 }
+    ensures { Tables (section_of day.now) counts.new changes.new ((day.now.terms.ones + 1) * 49) }
 {
-    let end = terms.ones + 1;
-    for ones in 0..end {
-        fill_row(terms, one, two, first, second, ones, counts, changes);
+    for ones in 0..=day.terms.ones {
+        fill_row(day, ones, counts, changes);
     }
 }

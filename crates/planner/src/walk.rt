@@ -1,106 +1,95 @@
 // The walk through the day, train by train: station 1's whenever the day's value stays the best.
-ghost use Rattle.std.specs.Prelude.{◌≡◌, ◌+◌, ◌*◌, ◌<◌, length};
-ghost use Rattle.planner.specs.Day.{Running, Tables, rest};
-ghost use Rattle.planner.specs.Walk.{start, Counted, step, Walks};
-ghost use Rattle.planner.specs.Planning.{asked_by, Planning};
+ghost use Rattle.std.specs.Prelude.{◌≡◌, ◌+◌, ◌*◌, ◌<◌};
+ghost use Rattle.planner.specs.Clock.{by_station, start};
+ghost use Rattle.planner.specs.Day.{goes_on, Running, rest};
+ghost use Rattle.planner.specs.Walk.{Counted, goes, Walks};
+ghost use Rattle.planner.specs.Filled.{section_of, Filled};
 
-use crate::clock::{Clock, Terms};
-use crate::{rests, trains};
+use crate::clock::Clock;
+use crate::day::Day;
+use crate::rests::{Next, Rests};
+use rules::Station;
 
-// Before the first train.
-fn begin(terms: Terms) -> Clock
-    ensures { result ≡ start terms.ones terms.twos }
-{
-    Clock {
-        begun: false,
-        one: true,
-        departure: 0,
-        changes: 0,
-        ones: terms.ones,
-        twos: terms.twos,
-        value: 0,
+// The departures of each station's trains, as they leave.
+#[derive(Clone, Copy, Debug)]
+pub struct Timetable {
+    pub one: [u32; 48],
+    pub two: [u32; 48],
+}
+
+// A day whose tables are filled, to be walked through.
+#[derive(Clone, Copy)]
+pub struct Walk<'a> {
+    pub day: &'a Day<'a>,
+    pub rests: Rests<'a>,
+    ghost filled: { Filled day.now rests ((day.now.terms.ones + 1) * 49) },
+}
+
+impl<'a> Walk<'a> {
+    // The best value of the whole day.
+    pub fn goal(self) -> i64
+        ensures { result ≡ rest (section_of self.entry.day.now) (start self.entry.day.now.terms.ones self.entry.day.now.terms.twos) }
+    {
+        let terms = self.day.terms;
+        let next = Next {
+            one: self.day.next_train(Station::One, terms.ones),
+            two: self.day.next_train(Station::Two, terms.twos),
+        };
+        self.rests
+            .best(terms, Clock::start(terms.ones, terms.twos), next)
     }
-}
 
-// The best value of the whole day.
-pub fn goal(
-    terms: Terms,
-    one: &[i32],
-    two: &[i32],
-    first: &[usize; 48],
-    second: &[usize; 48],
-    counts: &[[[i64; 3]; 49]; 49],
-    changes: &[[[i64; 48]; 13]; 13],
-) -> i64
-    requires planning { Planning terms one.now two.now first.now second.now }
-    requires tables { Tables (asked_by terms one.now two.now) counts.now changes.now ((terms.ones + 1) * 49) }
-    ensures { result ≡ rest (asked_by terms one.now two.now) (start terms.ones terms.twos) }
-{
-    let x = trains::next_train(terms.objective, one, first, terms.ones, terms.ones);
-    let y = trains::next_train(terms.objective, two, second, terms.twos, terms.twos);
-    rests::best(terms, begin(terms), x, y, counts, changes)
-}
+    // The clock once a station's next train has left.
+    fn goes_on(self, clock: Clock, station: Station) -> Clock
+        requires running { Running (section_of self.day.now) clock }
+        requires counted { Counted (section_of self.day.now) clock }
+        requires left { 0 < by_station station clock.ones clock.twos }
+        ensures { result ≡ goes_on (section_of self.entry.day.now) clock station }
+    {
+        let figures = self.day.next_train(station, clock.left(station));
+        clock.next(self.day.terms, station, figures)
+    }
 
-// The next clock: station 1's next train leaves if the day still comes to the goal, else station 2's.
-fn step(
-    terms: Terms,
-    one: &[i32],
-    two: &[i32],
-    first: &[usize; 48],
-    second: &[usize; 48],
-    goal: i64,
-    clock: Clock,
-    counts: &[[[i64; 3]; 49]; 49],
-    changes: &[[[i64; 48]; 13]; 13],
-) -> Clock
-    requires planning { Planning terms one.now two.now first.now second.now }
-    requires tables { Tables (asked_by terms one.now two.now) counts.now changes.now ((terms.ones + 1) * 49) }
-    requires running { Running (asked_by terms one.now two.now) clock }
-    requires counted { Counted (asked_by terms one.now two.now) clock }
-    requires left { 0 < clock.ones + clock.twos }
-    ensures { result ≡ step (asked_by terms one.now two.now) goal clock }
-{
-    if 0 < clock.ones {
-        let x = trains::next_train(terms.objective, one, first, terms.ones, clock.ones);
-        let after = clock.next(terms, true, x);
+    // Whose next train leaves: station 1's if it has one, and station 2 has none or the day still comes to the goal.
+    #[tactic(auto, using(crate::proofs::Stepping::goes_two_alone, crate::proofs::Stepping::goes_one_alone))]
+    fn goes(self, goal: i64, clock: Clock) -> Station
+        requires running { Running (section_of self.day.now) clock }
+        requires counted { Counted (section_of self.day.now) clock }
+        ensures { result ≡ goes (section_of self.entry.day.now) goal clock }
+    {
+        if clock.ones == 0 {
+            return Station::Two;
+        }
         if clock.twos == 0 {
-            return after;
+            return Station::One;
         }
-        if rests::day(terms.objective, after, counts, changes) <= goal {
-            return after;
+        let after = self.goes_on(clock, Station::One);
+        if self.rests.day(self.day.terms.objective, after) <= goal {
+            Station::One
+        } else {
+            Station::Two
         }
     }
-    let y = trains::next_train(terms.objective, two, second, terms.twos, clock.twos);
-    clock.next(terms, false, y)
-}
 
-// Walks through the day: the departures of each station's trains, as they leave.
-pub fn walk(
-    terms: Terms,
-    one: &[i32],
-    two: &[i32],
-    first: &[usize; 48],
-    second: &[usize; 48],
-    goal: i64,
-    counts: &[[[i64; 3]; 49]; 49],
-    changes: &[[[i64; 48]; 13]; 13],
-    times1: &mut [u32; 48],
-    times2: &mut [u32; 48],
-)
-    requires planning { Planning terms one.now two.now first.now second.now }
-    requires tables { Tables (asked_by terms one.now two.now) counts.now changes.now ((terms.ones + 1) * 49) }
-    requires room { (length times1.old ≡ 48) × (length times2.old ≡ 48) }
-    ensures { Walks (asked_by terms one.now two.now) goal times1.new times2.new }
-{
-    let mut clock = begin(terms);
-    while 0 < clock.ones + clock.twos {
-        clock = step(terms, one, two, first, second, goal, clock, counts, changes);
-        if clock.one {
-            let k = terms.ones - 1 - clock.ones;
-            times1[k] = clock.departure;
-        } else {
-            let k = terms.twos - 1 - clock.twos;
-            times2[k] = clock.departure;
+    // When each station's trains leave, on the way that comes to the goal.
+    pub fn times(self, goal: i64) -> Timetable
+        ensures { Walks (section_of self.entry.day.now) goal result.one result.two }
+    {
+        let terms = self.day.terms;
+        let mut times = Timetable {
+            one: [0; 48],
+            two: [0; 48],
+        };
+        let mut clock = Clock::start(terms.ones, terms.twos);
+        while 0 < clock.ones + clock.twos {
+            let station = self.goes(goal, clock);
+            let second = clock.departs(terms.timing, station);
+            match station {
+                Station::One => times.one[terms.ones - clock.ones] = second,
+                Station::Two => times.two[terms.twos - clock.twos] = second,
+            }
+            clock = self.goes_on(clock, station);
         }
+        times
     }
 }

@@ -1,5 +1,7 @@
 -- Laws that the code's proofs rest on.
-pub mod Seek
+pub mod First
+pub mod Chunks
 pub mod Table
+pub mod Reasons
 pub mod Parts
 pub mod Unique

@@ -1,51 +1,33 @@
--- What the first of the refusals is, part by part.
--- An answer settles a part or leaves it to the next; the searches settle the trains.
+-- What the first of the refusals is, part by part: the searches settle the trains.
 use mathlib.Core.Bool.{Bool, false, not}
-use mathlib.Core.List.{List, [], ◌∷◌, ◌++◌, append-eq-nil_iff}
-use mathlib.Core.Path.{◌≡◌, refl, ◌∙◌, ap}
-use Prim.Native.Nat.{ℕ, ◌+◌, ◌<◌, ◌≤◌}
+use mathlib.Core.List.{List, [], ◌++◌, append-eq-nil_iff}
+use mathlib.Core.Path.{◌≡◌, refl, sym, ◌∙◌, ap}
+use Prim.Native.Nat.{ℕ, ◌+◌, ◌≤◌}
 use native.Mathlib.Omega.{arith}
-use lib.IntN.{ℤ}
+use lib.IntN.{ℤ, pos}
 use borrow.Author.Tests.{ltb-false, eq-eqb, ne_eqb}
-use Rattle.rules.specs.declared.Answer.{Answer}
-use Rattle.rules.specs.declared.Outcome.TheVariants.{Value, Refused}
+use Rattle.std.specs.Prelude.{Some}
 use Rattle.rules.specs.Lists.{those}
-use Rattle.rules.specs.Line.{Station, one, two}
+use Rattle.rules.specs.declared.Station.{Station}
+use Rattle.rules.specs.declared.Station.TheVariants.{One as one, Two as two}
 use Rattle.rules.specs.Trains.{Section, aim, list_at, count_at, count, Train, train_at, trains_at, trains}
 use Rattle.rules.specs.Refusals.{Refusal, refuse, naming, crowded, call_refusals, train_refusals}
-use Rattle.rules.specs.Answers.{value_is, refused, says, verdict}
+use Rattle.rules.specs.Answers.{value_is, refused, verdict}
 use Rattle.rules.proofs.Lists.{those_append}
 use Rattle.rules.proofs.Refusals.{refuse_none}
 use Rattle.rules.proofs.Tests.{neither}
-use Rattle.refusals.specs.Trains.{trains_in, bad_at, first_bad}
-use Rattle.refusals.proofs.Seek.{Begins, begins, begins_append, none_pass, first_passes}
+use Rattle.refusals.specs.First.{NonePass, IsFirst}
+use Rattle.refusals.specs.Trains.{trains_in, bad_at}
+use Rattle.refusals.proofs.First.{Begins, begins, begins_append, none_pass, first_passes}
+use Rattle.refusals.proofs.Reasons.{none_found}
 use Rattle.refusals.proofs.Table.{most_bound}
 
--- An answer that says the first of these refusals: a refusal stands, whatever follows and whatever the value would be;
--- a value says that there is none.
-module _ (a : Answer) (v : ℤ) where
-  pub stands :
-      (xs ys : List Refusal) (w : ℤ) {number first second : ℕ} →
-      a.outcome ≡ Refused number first second →
-      says a ≡ verdict xs v →
-      says a ≡ verdict (xs ++ ys) w
-  unfolding says
-  stands [] ys w {number} {first} {second} told said =
-      let clash : refused number first second ≡ value_is v = rw told at said in cc
-  stands (x ∷ xs) ys w told said = said
-
-  pub nothing_refused : (xs : List Refusal) {w : ℤ} → a.outcome ≡ Value w → says a ≡ verdict xs v → xs ≡ []
-  unfolding says
-  nothing_refused [] told said = refl
-  nothing_refused (x ∷ xs) {w} told said =
-      let clash : value_is w ≡ refused x.number x.first x.second = rw told at said in cc
-
--- how many trains a station has, and the first of them that breaks its rule, as the code finds them
+-- how many trains a station has, as the code counts them, and which break their rule
 abbrev pub found_at : Section → Station → ℕ
 found_at S s = trains_in S.objective (list_at S s)
 
-abbrev pub bad_of : Section → Station → ℕ
-bad_of S s = first_bad S.objective (list_at S s)
+abbrev pub bad : Section → Station → ℕ → Bool
+bad S s = bad_at S.objective (list_at S s)
 
 -- a train that refusal 6 is about
 abbrev pub breaks : Section → Train → Bool
@@ -56,22 +38,22 @@ not_crowded : (S : Section) → call_refusals S ≡ [] → (crowded S one ≡ fa
 unfolding call_refusals
 not_crowded S none = (simp (append-eq-nil_iff, refuse_none, neither) at none).1
 
-few : (S : Section) (s : Station) → crowded S s ≡ false → found_at S s ≤ 48
-unfolding crowded count_at aim trains_in
+few : (S : Section) (s : Station) → crowded S s ≡ false → count_at S s ≤ 48
+unfolding crowded aim
 few S s e = omega (arith, most_bound S.objective, ltb-false (aim S).most (count_at S s) e)
 
-pub few_trains : (S : Section) (s : Station) → call_refusals S ≡ [] → found_at S s ≤ 48
-few_trains S one none = few S one (not_crowded S none).0
-few_trains S two none = few S two (not_crowded S none).1
+pub few_trains : (S : Section) (s : Station) → value_is (pos 0) ≡ verdict (call_refusals S) (pos 0) → count_at S s ≤ 48
+few_trains S one passed = few S one (not_crowded S (none_found (call_refusals S) (pos 0) passed)).0
+few_trains S two passed = few S two (not_crowded S (none_found (call_refusals S) (pos 0) passed)).1
 
 module _ (S : Section) (s : Station) where
-  none_at : found_at S s ≤ bad_of S s → those (breaks S) (trains_at S s) ≡ []
-  unfolding first_bad bad_at trains_in aim count_at train_at trains_at
-  none_at end = none_pass (breaks S) (train_at S s) 0 (count_at S s) (omega arith)
+  none_at : NonePass (bad S s) 0 (found_at S s) → those (breaks S) (trains_at S s) ≡ []
+  unfolding bad_at trains_in aim count_at train_at trains_at
+  none_at none = none_pass (breaks S) (train_at S s) 0 (count_at S s) (λ i l m. none i l (omega arith))
 
-  first_at : bad_of S s < found_at S s → Begins (train_at S s (bad_of S s)) (those (breaks S) (trains_at S s))
-  unfolding first_bad bad_at trains_in aim count_at train_at trains_at
-  first_at before = first_passes (breaks S) (train_at S s) 0 (count_at S s) (omega arith)
+  first_at : (k : ℕ) → IsFirst (bad S s) 0 (found_at S s) (Some k) → Begins (train_at S s k) (those (breaks S) (trains_at S s))
+  unfolding bad_at trains_in aim count_at train_at trains_at
+  first_at k (l, m, passes, none) = first_passes (breaks S) (train_at S s) 0 (count_at S s) k l (omega arith) passes none
 
 named :
     {x : Train} {xs : List Train} (number : ℕ) (rest : List Refusal) (v : ℤ) →
@@ -83,26 +65,26 @@ named number rest v begins = refl
 -- Refusals 6 and 7: a train of station 1 is named, or one of station 2;
 -- else the departures are not as many as the trains, or they are.
 module _ (S : Section) (places : ℕ) (v : ℤ) where
-  pub bad_one : bad_of S one < found_at S one → verdict (train_refusals S places) v ≡ refused 6 (bad_of S one) 0
+  pub bad_one : (k : ℕ) → IsFirst (bad S one) 0 (found_at S one) (Some k) → refused 6 k 0 ≡ verdict (train_refusals S places) v
   unfolding train_refusals trains train_at
-  bad_one before =
+  bad_one k first =
       rw those_append
-      (named 6 _ v (begins_append _ (first_at S one before)) ∙ ap (λ n. refused 6 n 0) (omega arith))
+      (ap (λ n. refused 6 n 0) (omega arith) ∙ sym (named 6 _ v (begins_append _ (first_at S one k first))))
 
-  module _ (end : found_at S one ≤ bad_of S one) where
+  module _ (end : NonePass (bad S one) 0 (found_at S one)) where
     pub bad_two :
-        bad_of S two < found_at S two →
-        verdict (train_refusals S places) v ≡ refused 6 (found_at S one + bad_of S two) 0
+        (k : ℕ) → IsFirst (bad S two) 0 (found_at S two) (Some k) →
+        refused 6 (found_at S one + k) 0 ≡ verdict (train_refusals S places) v
     unfolding train_refusals trains train_at count_at trains_in aim
-    bad_two before = rw (those_append, none_at S one end) (named 6 _ v (first_at S two before))
+    bad_two k first = rw (those_append, none_at S one end) (sym (named 6 _ v (first_at S two k first)))
 
-    module _ (end' : found_at S two ≤ bad_of S two) where
+    module _ (end' : NonePass (bad S two) 0 (found_at S two)) where
       pub misplaced :
           (places ≡ found_at S one + found_at S two → ⊥) →
-          verdict (train_refusals S places) v ≡ refused 7 0 0
+          refused 7 0 0 ≡ verdict (train_refusals S places) v
       unfolding train_refusals trains naming refuse count count_at trains_in aim
       misplaced wrong = rw (those_append, none_at S one end, none_at S two end', ne_eqb _ _ wrong)
 
-      pub all_well : places ≡ found_at S one + found_at S two → verdict (train_refusals S places) v ≡ value_is v
+      pub all_well : places ≡ found_at S one + found_at S two → value_is v ≡ verdict (train_refusals S places) v
       unfolding train_refusals trains naming refuse count count_at trains_in aim
       all_well right = rw (those_append, none_at S one end, none_at S two end', eq-eqb _ _ right)

@@ -1,8 +1,6 @@
--- The trains of a list by their place alone: how many there are, and the first that breaks its rule.
--- The searches of the code find these.
+-- The trains of a list by their place alone: how many there are, and which break their rule.
 use Rattle.std.specs.Prelude.{Bool, not, List, ℕ, ◌*◌, ◌/◌, ℤ, length, take, drop}
 use Rattle.rules.specs.Objectives.{aim_of}
-use Rattle.refusals.specs.Seek.{seek}
 
 -- how many trains a list has
 unfoldable pub trains_in : ℕ → List ℤ → ℕ
@@ -12,7 +10,3 @@ trains_in objective xs = length xs / (aim_of objective).numbers
 unfoldable pub bad_at : ℕ → List ℤ → ℕ → Bool
 bad_at objective xs k =
     not ((aim_of objective).good (take (aim_of objective).numbers (drop (k * (aim_of objective).numbers) xs)))
-
--- the first train of a list that breaks its rule; the number of trains where none does
-unfoldable pub first_bad : ℕ → List ℤ → ℕ
-first_bad objective xs = seek (bad_at objective xs) 0 (trains_in objective xs)

@@ -1,16 +1,52 @@
-// What is refused of a call, planner's and judge's alike: the first of refusals 1 to 7 that applies.
-// specs/Trains has the definitions that the contracts below cite beside the rules'.
+// What is refused of a call, planner's and judge's alike: the first of refusals 1 to 7 that applies; and how an outcome is told.
+// specs/Reasons has what a reason tells, specs/First and specs/Trains what the searches find.
 #![tactic(auto)]
 
-ghost use Rattle.std.specs.Prelude.{◌&&◌, not, ◌≡◌, ◌%◌, ◌≤◌, eqb, ltb, pos, length};
+ghost use Rattle.std.specs.Prelude.{◌&&◌, ◌||◌, not, ◌≡◌, ◌%◌, ◌≤◌, eqb, ltb, pos, length};
 ghost use Rattle.rules.specs.Line.{good_timing};
 ghost use Rattle.rules.specs.Objectives.{aim_of};
 ghost use Rattle.rules.specs.Refusals.{known, call_refusals, train_refusals, refusals};
-ghost use Rattle.rules.specs.Answers.{value_is, refused, says, verdict};
-ghost use Rattle.rules.specs.Trains.{asked};
-ghost use Rattle.refusals.specs.Trains.{trains_in, first_bad};
+ghost use Rattle.rules.specs.Answers.{refused, says, verdict};
+ghost use Rattle.rules.specs.declared.Station.TheVariants.{One as one, Two as two};
+ghost use Rattle.rules.specs.Trains.{told, count_at};
+ghost use Rattle.refusals.specs.Reasons.{tells, outcome_tells, checked};
+ghost use Rattle.refusals.specs.First.{IsFirst};
+ghost use Rattle.refusals.specs.Trains.{trains_in, bad_at};
 
-use rules::{Answer, Outcome, Timing};
+use rules::{Answer, Refusal, Section, Timing};
+
+// Why a call is refused, in the order of the rules' table, with the numbers of the trains that it names.
+#[derive(Clone, Copy, Debug, PartialEq, Eq)]
+pub enum Reason {
+    UnknownObjective,
+    BadTiming,
+    RaggedList,
+    NoTrain,
+    CrowdedStation,
+    BadTrain(u32),
+    DepartureCount,
+    LateDeparture(u32),
+    Conflict(u32, u32),
+}
+
+impl Reason {
+    // The answer that tells this reason, by its number in the rules' table.
+    fn told(self) -> Answer
+        ensures { says result ≡ tells self }
+    {
+        match self {
+            Reason::UnknownObjective => refused(1, 0, 0),
+            Reason::BadTiming => refused(2, 0, 0),
+            Reason::RaggedList => refused(3, 0, 0),
+            Reason::NoTrain => refused(4, 0, 0),
+            Reason::CrowdedStation => refused(5, 0, 0),
+            Reason::BadTrain(train) => refused(6, train, 0),
+            Reason::DepartureCount => refused(7, 0, 0),
+            Reason::LateDeparture(train) => refused(8, train, 0),
+            Reason::Conflict(train, other) => refused(9, train, other),
+        }
+    }
+}
 
 // The refusal with this number and these places.
 #[tactic(auto, unfolding(rules::specs::Answers::says))]
@@ -18,147 +54,120 @@ pub fn refused(number: u32, first: u32, second: u32) -> Answer
     ensures { says result ≡ refused number first second }
 {
     Answer {
-        outcome: Outcome::Refused {
+        outcome: Err(Refusal {
             number,
             first,
             second,
-        },
+        }),
     }
 }
 
-// Nothing is refused.
+// The answer that tells an outcome: the value, or the reason's number and places.
 #[tactic(auto, unfolding(rules::specs::Answers::says))]
-fn passed() -> Answer
-    ensures { says result ≡ value_is (pos 0) }
+pub fn answered(outcome: Result<i64, Reason>) -> Answer
+    ensures { says result ≡ outcome_tells outcome }
 {
-    Answer {
-        outcome: Outcome::Value(0),
+    match outcome {
+        Ok(value) => Answer { outcome: Ok(value) },
+        Err(reason) => reason.told(),
     }
-}
-
-// The objective is 1 to 4.
-#[tactic(auto, unfolding(rules::specs::Refusals::known))]
-fn known_objective(objective: u32) -> bool
-    ensures { result ≡ known objective }
-{
-    1 <= objective && objective <= 4
 }
 
 // The running time is 2 to 10,000, and the headway at least 1 and below it.
 #[tactic(auto, unfolding(rules::specs::Line::good_running, rules::specs::Line::good_headway, rules::specs::Line::good_timing))]
-fn good_timing(t: Timing) -> bool
-    ensures { result ≡ good_timing t }
+fn good_timing(timing: Timing) -> bool
+    ensures { result ≡ good_timing timing }
 {
-    if t.running < 2 {
-        return false;
-    }
-    if 10000 < t.running {
-        return false;
-    }
-    1 <= t.headway && t.headway <= t.running - 1
+    (2..=10000).contains(&timing.running) && (1..timing.running).contains(&timing.headway)
 }
 
 // How many trains a list has.
 #[tactic(auto, using(crate::proofs::Table::numbers_positive), unfolding(crate::specs::Trains::trains_in))]
-fn trains_in(objective: u32, xs: &[i32]) -> usize
-    ensures { result ≡ trains_in objective xs.now }
+fn trains_in(objective: u32, list: &[i32]) -> usize
+    ensures { result ≡ trains_in objective list.now }
 {
-    xs.len() / costs::numbers(objective)
+    list.len() / costs::numbers(objective)
 }
 
 // A list's last train lacks numbers.
 #[tactic(auto, using(crate::proofs::Table::numbers_positive))]
-fn ragged(objective: u32, xs: &[i32]) -> bool
-    ensures { result ≡ not (eqb (length xs.now % (aim_of objective).numbers) 0) }
+fn ragged(objective: u32, list: &[i32]) -> bool
+    ensures { result ≡ not (eqb (length list.now % (aim_of objective).numbers) 0) }
 {
-    xs.len() % costs::numbers(objective) != 0
-}
-
-// There is no train at all.
-fn both_empty(one: &[i32], two: &[i32]) -> bool
-    ensures { result ≡ (eqb (length one.now) 0 && eqb (length two.now) 0) }
-{
-    one.len() == 0 && two.len() == 0
+    list.len() % costs::numbers(objective) != 0
 }
 
 // A list has more trains than a station may have.
-fn crowded(objective: u32, xs: &[i32]) -> bool
-    ensures { result ≡ ltb (aim_of objective).most (trains_in objective xs.now) }
+fn crowded(objective: u32, list: &[i32]) -> bool
+    ensures { result ≡ ltb (aim_of objective).most (trains_in objective list.now) }
 {
-    costs::most(objective) < trains_in(objective, xs)
+    costs::most(objective) < trains_in(objective, list)
 }
 
-// Refusals 1 to 5, which the call's numbers and its lists' lengths settle.
-#[tactic(auto, unfolding(rules::specs::Refusals::call_refusals, rules::specs::Refusals::refuse, rules::specs::Refusals::ragged, rules::specs::Refusals::crowded, rules::specs::Trains::aim, rules::specs::Trains::count_at, crate::specs::Trains::trains_in))]
-fn call_refusal(objective: u32, timing: Timing, one: &[i32], two: &[i32]) -> Answer
-    ensures { says result ≡ verdict (call_refusals (asked objective timing one.now two.now)) (pos 0) }
+// Refusals 1 to 5, which the call's numbers and its lists' lengths settle. The objective is a number here, since that is what refusal 1 is about.
+#[tactic(auto, unfolding(rules::specs::Refusals::call_refusals, rules::specs::Refusals::known, rules::specs::Refusals::refuse, rules::specs::Refusals::ragged, rules::specs::Refusals::crowded, rules::specs::Trains::aim, rules::specs::Trains::count_at, crate::specs::Trains::trains_in))]
+fn call_refusal(section: Section) -> Result<(), Reason>
+    ensures { checked result (pos 0) ≡ verdict (call_refusals (told section.entry)) (pos 0) }
 {
-    if !known_objective(objective) {
-        return refused(1, 0, 0);
+    let Section {
+        objective,
+        timing,
+        one,
+        two,
+    } = section;
+    if !(1..=4).contains(&objective) {
+        return Err(Reason::UnknownObjective);
     }
     if !good_timing(timing) {
-        return refused(2, 0, 0);
+        return Err(Reason::BadTiming);
     }
-    if ragged(objective, one) | ragged(objective, two) {
-        return refused(3, 0, 0);
+    if ragged(objective, one) || ragged(objective, two) {
+        return Err(Reason::RaggedList);
     }
-    if both_empty(one, two) {
-        return refused(4, 0, 0);
+    if one.is_empty() && two.is_empty() {
+        return Err(Reason::NoTrain);
     }
-    if crowded(objective, one) | crowded(objective, two) {
-        return refused(5, 0, 0);
+    if crowded(objective, one) || crowded(objective, two) {
+        return Err(Reason::CrowdedStation);
     }
-    passed()
+    Ok(())
 }
 
-// The first train of a list that breaks its rule, or the number of trains where none does.
-fn first_bad(objective: u32, xs: &[i32]) -> usize
-    ensures { result ≡ first_bad objective xs.now }
+// The first train of a list that breaks its rule.
+#[tactic(auto, using(crate::proofs::Table::numbers_positive))]
+fn first_bad(objective: u32, list: &[i32]) -> Option<usize>
+    ensures { IsFirst (bad_at objective list.now) 0 (trains_in objective list.now) result }
 {
-    let numbers = costs::numbers(objective);
-    let count = trains_in(objective, xs);
-    let mut k = 0;
-    while k < count {
-        let at = k * numbers;
-        let end = at + numbers;
-        if !costs::good(objective, &xs[at..end]) {
-            return k;
-        }
-        k += 1;
-    }
-    k
+    list.chunks_exact(costs::numbers(objective))
+        .position(|figures| !costs::good(objective, figures))
 }
 
 // Refusals 6 and 7, which its trains settle, where there are few enough to be named.
-fn train_refusal(objective: u32, one: &[i32], two: &[i32], places: usize) -> Answer
-    requires { (trains_in objective one.now ≤ 48) × (trains_in objective two.now ≤ 48) }
-    ensures { (t : Timing) →
-        says result ≡ verdict (train_refusals (asked objective t one.now two.now) places) (pos 0) }
+// The casts keep a number below 96; `try_from` would have an error that cannot happen.
+#[tactic(auto, using(crate::proofs::Parts::misplaced, crate::proofs::Parts::all_well), unfolding(rules::specs::Trains::aim, rules::specs::Trains::count_at, crate::specs::Trains::trains_in))]
+fn train_refusal(section: Section, places: usize) -> Result<(), Reason>
+    requires { (count_at (told section) one ≤ 48) × (count_at (told section) two ≤ 48) }
+    ensures { checked result (pos 0) ≡ verdict (train_refusals (told section.entry) places) (pos 0) }
 {
-    let count = trains_in(objective, one);
-    let bad = first_bad(objective, one);
-    if bad < count {
-        return refused(6, bad as u32, 0);
+    let count = trains_in(section.objective, section.one);
+    if let Some(bad) = first_bad(section.objective, section.one) {
+        return Err(Reason::BadTrain(bad as u32));
     }
-    let others = trains_in(objective, two);
-    let bad = first_bad(objective, two);
-    if bad < others {
-        return refused(6, (count + bad) as u32, 0);
+    let others = trains_in(section.objective, section.two);
+    if let Some(bad) = first_bad(section.objective, section.two) {
+        return Err(Reason::BadTrain((count + bad) as u32));
     }
     if places != count + others {
-        return refused(7, 0, 0);
+        return Err(Reason::DepartureCount);
     }
-    passed()
+    Ok(())
 }
 
-// The first of refusals 1 to 7 that applies, or the value 0 where none does.
-pub fn refusal(objective: u32, timing: Timing, one: &[i32], two: &[i32], places: usize) -> Answer
-    ensures { says result ≡ verdict (refusals (asked objective timing one.now two.now) places) (pos 0) }
+// The first of refusals 1 to 7 that applies, or nothing.
+#[tactic(auto, using(crate::proofs::Reasons::stands, crate::proofs::Reasons::none_found, crate::proofs::Parts::few_trains), unfolding(rules::specs::Refusals::refusals))]
+pub fn refusal(section: Section, places: usize) -> Result<(), Reason>
+    ensures { checked result (pos 0) ≡ verdict (refusals (told section.entry) places) (pos 0) }
 {
-    let call = call_refusal(objective, timing, one, two);
-    let outcome = call.outcome;
-    let Outcome::Value(_) = outcome else {
-        return call;
-    };
-    train_refusal(objective, one, two, places)
+    call_refusal(section)?;
+    train_refusal(section, places)
 }

@@ -1,16 +1,20 @@
 -- What an answer says leaves nothing of it open.
-use mathlib.Core.Path.{◌≡◌}
+use mathlib.Core.Path.{◌≡◌, refl, ap, sym, ◌∙◌}
+use Rattle.std.specs.Prelude.{ℤ, Result, Ok, Err}
 use Rattle.rules.specs.declared.Answer.{Answer}
-use Rattle.rules.specs.declared.Outcome.{Outcome}
-use Rattle.rules.specs.declared.Outcome.TheVariants.{Value, Refused}
-use Rattle.rules.specs.Answers.{outcome_says, says}
+use Rattle.rules.specs.declared.Refusal.{Refusal}
+use Rattle.rules.specs.Answers.{Verdict, value_is, refused, outcome_says, says}
 
-same_outcome : (o p : Outcome) → outcome_says o ≡ outcome_says p → o ≡ p
-same_outcome (Value v) (Value w) e = cc
-same_outcome (Value v) (Refused m j k) e = cc
-same_outcome (Refused n i j) (Value w) e = cc
-same_outcome (Refused n i j) (Refused m k l) e = cc
+-- the outcome that says a verdict
+abbrev outcome_of : Verdict → Result ℤ Refusal
+outcome_of (value_is v) = Ok v
+outcome_of (refused number first second) = Err (record { number = number; first = first; second = second })
+
+read_back : (o : Result ℤ Refusal) → outcome_of (outcome_says o) ≡ o
+read_back (Ok v) = refl
+read_back (Err r) = refl
 
 pub same_answer : (a b : Answer) → says a ≡ says b → a ≡ b
 unfolding says
-same_answer a b e = λ i. record { outcome = same_outcome a.outcome b.outcome e i }
+same_answer a b e =
+    ap (λ o. record { outcome = o }) (sym (read_back a.outcome) ∙ ap outcome_of e ∙ read_back b.outcome)

@@ -6,7 +6,9 @@ use native.Mathlib.Omega.{arith}
 use lib.Dec.{T, leb, leb→le, le→leb}
 use Rattle.rules.specs.declared.Timing.{Timing}
 use Rattle.rules.proofs.Tests.{both}
-use Rattle.rules.specs.Line.{Station, one, two, good_running, good_headway, good_timing, gap, running, arrival}
+use Rattle.rules.specs.declared.Station.{Station}
+use Rattle.rules.specs.declared.Station.TheVariants.{One as one, Two as two}
+use Rattle.rules.specs.Line.{good_running, good_headway, good_timing, gap, running, arrival}
 
 at_most : (m n : ℕ) → T (leb m n) ↔ (m ≤ n)
 at_most m n = (leb→le m n, le→leb m n)

@@ -10,7 +10,7 @@ use borrow.Author.Tests.{lt-ltb, le-ltb, ltb-false}
 use lib.Dec.{ltb}
 use lib.ListN.{get_or}
 use Rattle.rules.specs.Lists.{count_from}
-use Rattle.rules.specs.Line.{one, two}
+use Rattle.rules.specs.declared.Station.TheVariants.{One as one, Two as two}
 use Rattle.rules.specs.Trains.{Section, count_at, count, Train, train_at, trains_at, trains, runs}
 
 pub count_on : (k n m : ℕ) → count_from k n ++ count_from (k + n) m ≡ count_from k (n + m)
@@ -58,14 +58,6 @@ module _ (S : Section) where
       by_station : (b : Bool) → ltb k (count_at S one) ≡ b → (cond b (train_at S one k) (train_at S two (k - count_at S one))).number ≡ k
       by_station true e = zero-add k
       by_station false e = omega (arith, ltb-false k (count_at S one) e)
-
-  pub nth_station : (k : ℕ) → (nth k).station ≡ cond (ltb k (count_at S one)) one two
-  unfolding nth train_at
-  nth_station k = by_station (ltb k (count_at S one))
-    where
-      by_station : (b : Bool) → (cond b (train_at S one k) (train_at S two (k - count_at S one))).station ≡ cond b one two
-      by_station true = refl
-      by_station false = refl
 
   pub runs_nth : (departures : List ℕ)
       → runs S departures ≡ map (λ k. record { train = nth k; departure = get_or departures k 0 }) (count_from 0 (count S))

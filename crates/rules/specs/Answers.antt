@@ -1,9 +1,8 @@
 -- What planner and judge answer, what the planner leaves in the departures, and how the code's answer says it.
 -- These are the definitions that the public promises cite.
-use Rattle.std.specs.Prelude.{List, [], ◌∷◌, ℕ, ℤ, length}
+use Rattle.std.specs.Prelude.{List, [], ◌∷◌, ℕ, ℤ, length, Result, Ok, Err}
 use Rattle.rules.specs.declared.Answer.{Answer}
-use Rattle.rules.specs.declared.Outcome.{Outcome}
-use Rattle.rules.specs.declared.Outcome.TheVariants.{Value, Refused}
+use Rattle.rules.specs.declared.Refusal.{Refusal as Told}
 use Rattle.rules.specs.Trains.{Section}
 use Rattle.rules.specs.Value.{value}
 use Rattle.rules.specs.Orders.{best_value, plan}
@@ -14,9 +13,9 @@ pub data Verdict : Type 0 where
   value_is : ℤ → Verdict
   refused : ℕ → ℕ → ℕ → Verdict
 
-abbrev pub outcome_says : Outcome → Verdict
-outcome_says (Value v) = value_is v
-outcome_says (Refused number first second) = refused number first second
+abbrev pub outcome_says : Result ℤ Told → Verdict
+outcome_says (Ok v) = value_is v
+outcome_says (Err r) = refused r.number r.first r.second
 
 -- what the code's answer says, in these terms
 unfoldable pub says : Answer → Verdict

@@ -1,10 +1,9 @@
 -- The line: two stations and one track between them, how far apart departures are kept, and when a train arrives.
 -- Who waits how long for whom is said here and nowhere else.
 use Rattle.std.specs.Prelude.{Bool, true, false, ◌&&◌, ◌||◌, ℕ, ◌+◌, ◌-◌, leb}
+use Rattle.rules.specs.declared.Station.{Station}
+use Rattle.rules.specs.declared.Station.TheVariants.{One as one, Two as two}
 use Rattle.rules.specs.declared.Timing.{Timing}
-
-pub data Station : Type 0 where
-  one two : Station
 
 -- the running time p is 2 to 10,000, and the headway β is 1 to p - 1
 unfoldable pub good_running : Timing → Bool

@@ -3,7 +3,9 @@
 use Rattle.std.specs.Prelude.{Bool, cond, List, [], ◌∷◌, ◌++◌, map, ℕ, zero, suc, ◌+◌, eqb, ℤ}
 use Rattle.std.specs.Int.Signed.{le_z}
 use Rattle.rules.specs.declared.Timing.{Timing}
-use Rattle.rules.specs.Line.{Station, one, two, gap}
+use Rattle.rules.specs.declared.Station.{Station}
+use Rattle.rules.specs.declared.Station.TheVariants.{One as one, Two as two}
+use Rattle.rules.specs.Line.{gap}
 use Rattle.rules.specs.Trains.{Section, aim, count_at, Train, trains_at, trains, Run}
 use Rattle.rules.specs.Value.{value}
 

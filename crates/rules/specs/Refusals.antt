@@ -2,7 +2,9 @@
 -- Each has its number and its two places; a place is 0 where it names no train.
 use Rattle.std.specs.Prelude.{Bool, not, ◌&&◌, ◌||◌, cond, List, [], ◌∷◌, ◌++◌, map, ℕ, ◌%◌, leb, ltb, eqb, length}
 use Rattle.rules.specs.Lists.{those}
-use Rattle.rules.specs.Line.{Station, one, two, good_timing}
+use Rattle.rules.specs.declared.Station.{Station}
+use Rattle.rules.specs.declared.Station.TheVariants.{One as one, Two as two}
+use Rattle.rules.specs.Line.{good_timing}
 use Rattle.rules.specs.Trains.{Section, aim, list_at, count_at, count, Train, trains, Run, runs}
 use Rattle.rules.specs.Safe.{conflicts}
 

@@ -2,8 +2,10 @@
 -- Trains are numbered from 0 through station 1's list and on through station 2's.
 use Rattle.std.specs.Prelude.{List, ◌++◌, map, ℕ, ◌+◌, ◌*◌, ◌/◌, ℤ, length, get_or, take, drop}
 use Rattle.rules.specs.declared.Timing.{Timing}
+use Rattle.rules.specs.declared.Section.{Section as Sheet}
 use Rattle.rules.specs.Lists.{count_from}
-use Rattle.rules.specs.Line.{Station, one, two}
+use Rattle.rules.specs.declared.Station.{Station}
+use Rattle.rules.specs.declared.Station.TheVariants.{One as one, Two as two}
 use Rattle.rules.specs.Objectives.{Objective, aim_of}
 
 -- what a caller asks about: the objective's number, the timing, station 1's list and station 2's
@@ -16,6 +18,10 @@ pub record Section : Type 0 where
 -- the section of a call
 abbrev pub asked : ℕ → Timing → List ℤ → List ℤ → Section
 asked n t xs ys = record { objective = n; timing = t; one = xs; two = ys }
+
+-- the section that the code's one tells
+abbrev pub told : Sheet → Section
+told s = asked s.objective s.timing s.one.now s.two.now
 
 unfoldable pub aim : Section → Objective
 aim S = aim_of S.objective

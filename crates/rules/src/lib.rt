@@ -2,25 +2,39 @@
 // What they mean, and every rule of the line, stands in specs/.
 #![tactic(auto)]
 
+// A station of the line.
+#[derive(Clone, Copy, Debug, PartialEq, Eq)]
+pub enum Station {
+    One,
+    Two,
+}
+
 // Seconds between departures: a train's running time from one station to the other, and the headway behind a train of the same station.
-#[derive(Clone, Copy)]
+#[derive(Clone, Copy, Debug, PartialEq, Eq)]
 pub struct Timing {
     pub running: u32,
     pub headway: u32,
 }
 
-// The value of a schedule; or the refusal's number, and the two places that it names.
-#[derive(Clone, Copy)]
-pub enum Outcome {
-    Value(i64),
-    Refused {
-        number: u32,
-        first: u32,
-        second: u32,
-    },
+// What is asked about: the objective's number, the timing, station 1's list and station 2's.
+#[derive(Clone, Copy, Debug)]
+pub struct Section<'a> {
+    pub objective: u32,
+    pub timing: Timing,
+    pub one: &'a [i32],
+    pub two: &'a [i32],
 }
 
-#[derive(Clone, Copy)]
+// A refusal's number, and the two places that it names.
+#[derive(Clone, Copy, Debug, PartialEq, Eq)]
+pub struct Refusal {
+    pub number: u32,
+    pub first: u32,
+    pub second: u32,
+}
+
+// The value of a schedule, or why there is none.
+#[derive(Clone, Copy, Debug, PartialEq, Eq)]
 pub struct Answer {
-    pub outcome: Outcome,
+    pub outcome: Result<i64, Refusal>,
 }

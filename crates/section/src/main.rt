@@ -9,6 +9,7 @@ use std::io;
 use std::io::{Read, Write};
 
 // Reads until `text` is full or the input ends, and gives how many bytes were read.
+// A loop over `read`, since `read_exact` does not tell how much a shorter input had.
 fn read_full<R: Read>(input: &mut R, text: &mut [u8]) -> io::Result<usize>
     ensures within { IfOk result (λ n. n ≤ length text.new) }
     ensures bytes { IfOk result (λ n. Consumes (R.remaining input.old) (R.remaining input.new) (take n text.new)) }
@@ -32,10 +33,9 @@ fn answer_input<R: Read, W: Write>(input: &mut R, output: &mut W) -> io::Result<
 {
     let mut text: [u8; 16385] = [0; 16385];
     let n = read_full(input, &mut text)?;
-    let printed = section_file::answer_text(&text[..n]);
-    let bytes = printed.bytes;
-    let count = printed.count;
-    output.write_all(&bytes[..count])
+    let page = section_file::answer_text(&text[..n]);
+    let answer = page.as_bytes();
+    output.write_all(answer)
 }
 
 fn main(rt: HostRuntime) -> io::Result<()> {

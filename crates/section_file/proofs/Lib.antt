@@ -1,8 +1,7 @@
 -- Laws that the proofs of the functions share.
 pub mod Sections
-pub mod Puts
-pub mod Trains
-pub mod TrainLines
-pub mod Outcomes
 pub mod Files
+pub mod Printed
+pub mod Trains
+pub mod Outcomes
 pub mod Unique

@@ -1,101 +1,121 @@
--- What is put of an answer is what is to be printed of it: of a refusal its line, of a value the lines of all trains.
-use mathlib.Core.Bool.{true, cond}
-use mathlib.Core.List.{List, [], ◌∷◌, ◌++◌, map}
-use mathlib.Core.Path.{◌≡◌, refl, sym, ◌∙◌, ap, ap₂}
-use Prim.Native.Nat.{ℕ, ◌+◌, ◌/◌, ◌≤◌}
-use native.Mathlib.Omega.{arith}
-use lib.Dec.{leb}
-use lib.IntN.{ℤ}
-use lib.ListN.{length, take, length-map}
-use lib.Seq.{take-length}
-use borrow.Author.Tests.{le-leb}
-use Rattle.rules.specs.Line.{one, two}
+-- What is put of an answer is what is to be printed of it, and an answer's lines fit the page.
+use Rattle.std.proofs.Common.{ℕ, suc, ◌+◌, ◌*◌, ◌≤◌, ◌≡◌, refl, ◌∙◌, ap, List, [], ◌∷◌, ◌++◌, length, length-append, take, drop, take-append-drop, Option, Some, None, ℤ, pos, negsuc, arith}
+use Rattle.std.proofs.lemmas.List.{length-map, take_all}
+use Rattle.rules.specs.declared.Station.{Station}
+use Rattle.rules.specs.declared.Station.TheVariants.{One as one, Two as two}
 use Rattle.rules.specs.declared.Timing.{Timing}
-use Rattle.rules.specs.Objectives.{aim_of}
-use Rattle.rules.specs.Trains.{Section, asked, aim, count_at, count, trains, runs}
-use Rattle.rules.specs.Orders.{by_number, departures_of, plan}
+use Rattle.rules.specs.Line.{arrival}
+use Rattle.rules.specs.Trains.{Section, aim, count_at, count, trains}
+use Rattle.rules.specs.Value.{value}
+use Rattle.rules.specs.Orders.{by_number, departures_of, best_value, plan}
 use Rattle.rules.specs.Refusals.{Refusal, refusals, judge_refusals}
 use Rattle.rules.specs.Answers.{Verdict, value_is, refused, verdict, written, planner_answers, planner_leaves, judge_answers}
 use Rattle.best.proofs.Accepted.{accepted, accepted_places}
 use Rattle.best.proofs.Numbers.{trains_count}
 use Rattle.refusals.proofs.Table.{most_bound}
-use Rattle.section_file.specs.Lines.{train_line, all_lines, printed}
-use Rattle.section_file.specs.Page.{Put}
-use Rattle.section_file.specs.Printing.{lines_of, printed_with}
-use Rattle.section_file.proofs.TrainLines.{lines_are}
-
-pub with_lines : (word : List ℕ) (S : Section) (v : Verdict) (departures trains : List ℕ)
-    → ((x : ℤ) → v ≡ value_is x → trains ≡ all_lines (map (train_line S) (runs S departures))) → printed_with word v trains ≡ printed word S v departures
-with_lines word S (value_is x) departures trains same = ap (printed_with word (value_is x)) (same x refl)
-with_lines word S (refused n i j) departures trains same = refl
-
--- a value says that nothing is refused
-nothing_left : (rs : List Refusal) (v x : ℤ) → verdict rs v ≡ value_is x → rs ≡ []
-nothing_left [] v x e = refl
-nothing_left (r ∷ rs) v x e = cc
+use Rattle.text.specs.Written.{decimal, signed}
+use Rattle.text.proofs.Decimal.{length_digits}
+use Rattle.section_file.specs.Layout.{File}
+use Rattle.section_file.specs.Lines.{planned, judged, refused_word, unreadable_word, station_number, printed}
+use Rattle.section_file.specs.Answer.{file_lines, read, answered, answer}
+use Rattle.section_file.specs.Printing.{station_lines, Complete}
+use Rattle.section_file.proofs.Trains.{lines_are}
 
 first_empty : {A : Type 0} (xs ys : List A) → xs ++ ys ≡ [] → xs ≡ []
 first_empty [] ys e = refl
 first_empty (x ∷ xs) ys e = cc
-
--- how many trains are printed, of so many
-abbrev pub shown : ℕ → ℕ
-shown n = cond (leb n 96) n 0
 
 module _ (S : Section) where
   few : (places : ℕ) → refusals S places ≡ [] → count S ≤ 96
   unfolding count aim
   few places none = let A = accepted S places none in omega (arith, most_bound S.objective, A.few one, A.few two)
 
-  all_shown : (places : ℕ) → refusals S places ≡ [] → (departures : List ℕ) → length departures ≡ count S
-      → lines_of S.timing (count_at S one) (take (shown (length departures)) departures) ≡ all_lines (map (train_line S) (runs S departures))
-  all_shown places none departures all =
-      let within : leb (length departures) 96 ≡ true = le-leb (length departures) 96 (omega (arith, few places none)) in
-      rw (within, take-length) (lines_are S departures all)
-
   plan_count : length (plan S) ≡ count S
   unfolding plan departures_of by_number
   plan_count = length-map (trains S) _ ∙ trains_count S
 
-  pub plan_printed : (word before : List ℕ) → length before ≡ count S
-      → printed_with word (planner_answers S (length before)) (lines_of S.timing (count_at S one) (take (shown (length before)) (planner_leaves S before)))
-      ≡ printed word S (planner_answers S (count S)) (plan S)
-  unfolding planner_answers planner_leaves
-  plan_printed word before all =
-      let trains : List ℕ = lines_of S.timing (count_at S one) (take (shown (length before)) (planner_leaves S before)) in
-      ap (λ n. printed_with word (planner_answers S n) trains) all
-      ∙ with_lines word S (planner_answers S (count S)) (plan S) trains
-      (λ x e.
-      let none : refusals S (count S) ≡ [] = nothing_left _ _ x e in
-      let here : refusals S (length before) ≡ [] = ap (refusals S) all ∙ none in
-      let within : leb (length before) 96 ≡ true = le-leb (length before) 96 (omega (arith, few (count S) none)) in
-      let first : take (shown (length before)) (planner_leaves S before) ≡ plan S =
-      ap₂ (λ b rs. take (cond b (length before) 0) (written rs (plan S) before)) within here ∙ ap (λ n. take n (plan S)) (all ∙ sym plan_count) ∙ take-length (plan S) in
-      ap (lines_of S.timing (count_at S one)) first ∙ lines_are S (plan S) plan_count)
+  -- what the planner leaves is complete where it answers a value, and is then the plan
+  module _ (before : List ℕ) (all : length before ≡ count S) where
+    pub plan_complete : Complete S (planner_answers S (length before)) (planner_leaves S before)
+    unfolding planner_answers planner_leaves
+    plan_complete = by_refusals (refusals S (length before)) refl
+      where
+        by_refusals : (rs : List Refusal) → refusals S (length before) ≡ rs → Complete S (verdict rs (best_value S)) (written rs (plan S) before)
+        by_refusals [] none = (plan_count, few (length before) none)
+        by_refusals (r ∷ rs) some = tt
 
-  pub judge_printed : (word departures : List ℕ)
-      → printed_with word (judge_answers S departures) (lines_of S.timing (count_at S one) (take (shown (length departures)) departures))
-      ≡ printed word S (judge_answers S departures) departures
+    pub plan_printed : (word : List ℕ) → printed word S (planner_answers S (length before)) (planner_leaves S before)
+        ≡ printed word S (planner_answers S (count S)) (plan S)
+    unfolding planner_answers planner_leaves
+    plan_printed word = by_refusals (refusals S (length before)) _ ∙ ap (λ n. printed word S (verdict (refusals S n) (best_value S)) (plan S)) all
+      where
+        by_refusals : (rs : List Refusal) (v : ℤ) → printed word S (verdict rs v) (written rs (plan S) before) ≡ printed word S (verdict rs v) (plan S)
+        by_refusals [] v = refl
+        by_refusals (r ∷ rs) v = refl
+
+  -- and so are recorded departures that are judged
+  pub judge_complete : (departures : List ℕ) → Complete S (judge_answers S departures) departures
   unfolding judge_answers judge_refusals
-  judge_printed word departures =
-      with_lines word S (judge_answers S departures) departures _
-      (λ x e.
-      let none : refusals S (length departures) ≡ [] = first_empty _ _ (first_empty _ _ (nothing_left _ _ x e)) in
-      all_shown (length departures) none departures (accepted_places S (length departures) none))
+  judge_complete departures = by_refusals (judge_refusals S departures) refl
+    where
+      by_refusals : (rs : List Refusal) → judge_refusals S departures ≡ rs → Complete S (verdict rs (value S departures)) departures
+      by_refusals [] none =
+          let first = first_empty _ _ (first_empty _ _ none) in
+          (accepted_places S (length departures) first, few (length departures) first)
+      by_refusals (r ∷ rs) some = tt
 
-  -- what is put, by the numbers that the code has found
-  module _ {page page' : List ℕ} {r ones k : ℕ} {v : Verdict} (first : ones ≡ count_at S one) where
-    pub judge_put : (word departures : List ℕ) → k ≡ shown (length departures) → v ≡ judge_answers S departures
-        → Put page 0 (printed_with word v (lines_of S.timing ones (take k departures))) page' r → Put page 0 (printed word S (judge_answers S departures) departures) page' r
-    judge_put word departures some said p = rw (first, some, said, judge_printed word departures) at p
+-- ---- the page's room
 
-    pub plan_put : (word before after : List ℕ) → length before ≡ count S → k ≡ shown (length before) → v ≡ planner_answers S (length before)
-        → after ≡ planner_leaves S before → Put page 0 (printed_with word v (lines_of S.timing ones (take k after))) page' r
-        → Put page 0 (printed word S (planner_answers S (count S)) (plan S)) page' r
-    plan_put word before after all some said left p = rw (first, some, said, left, plan_printed word before all) at p
+decimal_short : (n : ℕ) → length (decimal n) ≤ 20
+unfolding decimal
+decimal_short n = length_digits 20 n
 
--- how many trains a station has
-pub trains_found : (objective : ℕ) (t : Timing) (list list' : List ℤ) {numbers : ℕ} → numbers ≡ (aim_of objective).numbers
-    → (length list / numbers ≡ count_at (asked objective t list list') one) × (length list / numbers + length list' / numbers ≡ count (asked objective t list list'))
-unfolding count count_at aim
-trains_found objective t list list' e = (ap (λ n. length list / n) e, ap (λ n. length list / n + length list' / n) e)
+signed_short : (z : ℤ) → length (signed z) ≤ 21
+signed_short (pos n) = omega (arith, decimal_short n)
+signed_short (negsuc n) = omega (arith, decimal_short (suc n))
+
+lines_short : (t : Timing) (s : Station) (k : ℕ) (ds : List ℕ) → length (station_lines t s k ds) ≤ 84 * length ds
+lines_short t s k [] = omega arith
+lines_short t s k (d ∷ ds) =
+    simp length-append (omega (arith, decimal_short (station_number s), decimal_short k, decimal_short d, decimal_short (arrival t s d), lines_short t s (suc k) ds))
+
+length_halves : {A : Type 0} (n : ℕ) (xs : List A) → length (take n xs) + length (drop n xs) ≡ length xs
+length_halves n xs = rw (← length-append, take-append-drop) refl
+
+printed_short : (word : List ℕ) (S : Section) (v : Verdict) (ds : List ℕ) → length word ≤ 7 → Complete S v ds → length (printed word S v ds) ≤ 8192
+unfolding refused_word
+printed_short word S (value_is v) ds h complete =
+    let n = count_at S one in
+    rw (lines_are S ds complete.0)
+    (simp length-append (omega (
+      arith,
+      signed_short v,
+      complete.0,
+      complete.1,
+      lines_short S.timing one 0 (take n ds),
+      lines_short S.timing two 0 (drop n ds),
+      length_halves n ds,
+    )))
+printed_short word S (refused number first second) ds h complete =
+    simp length-append (omega (arith, decimal_short number, decimal_short first, decimal_short second))
+
+file_short : (S : Section) (ds : List ℕ) → length (file_lines S ds) ≤ 8192
+unfolding planned judged
+file_short S [] =
+    let all = plan_count S in
+    rw (← plan_printed S (plan S) all planned) (printed_short planned S _ _ (omega arith) (plan_complete S (plan S) all))
+file_short S (d ∷ ds) = printed_short judged S _ (d ∷ ds) (omega arith) (judge_complete S (d ∷ ds))
+
+answer_short : (text : List ℕ) → length (answer text) ≤ 8192
+unfolding answer unreadable_word
+answer_short text = by_file (read text)
+  where
+    by_file : (f : Option File) → length (answered f) ≤ 8192
+    by_file (Some f) = file_short f.section f.recorded
+    by_file None = omega arith
+
+-- so a page that it is put onto has all of it
+pub whole_answer : (text before page : List ℕ) → before ≡ [] → page ≡ take 8192 (before ++ answer text) → (page ≡ answer text) × (length page ≤ 8192)
+whole_answer text before page new put =
+    let whole : page ≡ answer text = (rw new at put) ∙ take_all 8192 (answer text) (answer_short text) in
+    (whole, rw whole (answer_short text))

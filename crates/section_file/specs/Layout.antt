@@ -1,46 +1,41 @@
 -- The section file's numbers: four sections in a fixed order, each after its count, and nothing after the last.
 -- The heading has three: the objective, the running time and the headway.
-use Rattle.std.specs.Prelude.{Bool, true, false, ◌&&◌, ◌||◌, cond, List, [], ◌∷◌, map, ℕ, leb, ℤ, pos, nat_abs, length, take, drop}
-use Rattle.rules.specs.Lists.{every}
+use Rattle.std.specs.Prelude.{Bool, true, false, ◌&&◌, ◌||◌, cond, Option, Some, None, option_and_then, List, [], ◌∷◌, map, ℕ, leb, ℤ, pos, nat_abs, length, take, drop}
+use Rattle.std.specs.Int.Signed.{le_z}
+use Rattle.std.specs.List.{list_all}
 use Rattle.rules.specs.Figures.{figure, within}
 use Rattle.rules.specs.Trains.{Section, asked}
-use Rattle.std.specs.Int.Signed.{le_z}
 
--- a section's numbers and what follows it, or that it is unreadable
-pub data Part : Type 0 where
-  part : List ℤ → List ℤ → Part
-  no_part : Part
-
--- a count from `least` to `most`, and so many numbers; a minus may stand only where `minus` says so
-abbrev pub section_of : ℕ → ℕ → Bool → List ℤ → Part
-section_of least most minus [] = no_part
+-- a section's numbers and what follows it, where a section begins: a count from `least` to `most`, and so many numbers
+-- a minus may stand only where `minus` says so
+abbrev pub section_of : ℕ → ℕ → Bool → List ℤ → Option (List ℤ × List ℤ)
+section_of least most minus [] = None
 section_of least most minus (n ∷ zs) =
-    cond (within (pos least) (pos most) n && leb (nat_abs n) (length zs) && (minus || every (le_z (pos 0)) (take (nat_abs n) zs)))
-    (part (take (nat_abs n) zs) (drop (nat_abs n) zs)) no_part
+    cond (within (pos least) (pos most) n && leb (nat_abs n) (length zs) && (minus || list_all (le_z (pos 0)) (take (nat_abs n) zs)))
+    (Some (take (nat_abs n) zs, drop (nat_abs n) zs)) None
 
 -- a section to plan, or recorded departures of it to judge
-pub data File : Type 0 where
-  file : Section → List ℕ → File
-  unreadable : File
+pub record File : Type 0 where
+  pub section : Section
+  pub recorded : List ℕ
 
--- the file of three sections, where nothing follows
-abbrev pub ended : List ℤ → List ℤ → List ℤ → Part → File
-ended h xs ys (part ds []) =
-    file (asked (nat_abs (figure h 0)) (record { running = nat_abs (figure h 1); headway = nat_abs (figure h 2) }) xs ys) (map nat_abs ds)
-ended h xs ys (part ds (z ∷ zs)) = unreadable
-ended h xs ys no_part = unreadable
+-- the file of a heading, two lists and recorded departures, where nothing follows
+abbrev pub ended : List ℤ → List ℤ → List ℤ → List ℤ → List ℤ → Option File
+ended h xs ys ds [] =
+    Some (record {
+      section = asked (nat_abs (figure h 0)) (record { running = nat_abs (figure h 1); headway = nat_abs (figure h 2) }) xs ys;
+      recorded = map nat_abs ds;
+    })
+ended h xs ys ds (z ∷ zs) = None
 
-abbrev pub then_recorded : List ℤ → List ℤ → Part → File
-then_recorded h xs no_part = unreadable
-then_recorded h xs (part ys zs) = ended h xs ys (section_of 0 512 false zs)
+-- what follows a section that begins, if one does
+abbrev pub after : Option (List ℤ × List ℤ) → (List ℤ → List ℤ → Option File) → Option File
+after section next = option_and_then (λ p. next p.0 p.1) section
 
-abbrev pub then_two : List ℤ → Part → File
-then_two h no_part = unreadable
-then_two h (part xs zs) = then_recorded h xs (section_of 0 512 true zs)
-
-abbrev pub then_one : Part → File
-then_one no_part = unreadable
-then_one (part h zs) = then_two h (section_of 0 512 true zs)
-
-unfoldable pub laid_out : List ℤ → File
-laid_out zs = then_one (section_of 3 3 false zs)
+unfoldable pub laid_out : List ℤ → Option File
+laid_out zs =
+    after (section_of 3 3 false zs) (λ h zs.
+    after (section_of 0 512 true zs) (λ xs zs.
+    after (section_of 0 512 true zs) (λ ys zs.
+    after (section_of 0 512 false zs) (λ ds zs.
+    ended h xs ys ds zs))))

@@ -1,7 +1,9 @@
 -- The printed lines: the outcome and the value, then a line for each train; or the refusal.
 -- Fields are parted by one space (32), and every line ends in a line end (10).
 use Rattle.std.specs.Prelude.{List, [], ◌∷◌, ◌++◌, map, ℕ, ◌-◌}
-use Rattle.rules.specs.Line.{Station, one, two, arrival}
+use Rattle.rules.specs.declared.Station.{Station}
+use Rattle.rules.specs.declared.Station.TheVariants.{One as one, Two as two}
+use Rattle.rules.specs.Line.{arrival}
 use Rattle.rules.specs.Trains.{Section, first_number, Run, runs}
 use Rattle.rules.specs.Answers.{Verdict, value_is, refused}
 use Rattle.text.specs.Bytes.{bytes}

@@ -1,27 +1,29 @@
--- The printed lines by train numbers alone, as the code goes through them.
--- proofs/ shows that they are the lines of the section's trains.
-use Rattle.std.specs.Prelude.{cond, List, [], ◌∷◌, ◌++◌, map, ℕ, ◌-◌, ltb, pos, length, get_or}
+-- The printed lines as the code goes through them, station by station, and the answers whose departures are all there.
+-- No public promise cites these. proofs/ shows that the lines are those of the section's trains.
+use Rattle.std.specs.Prelude.{List, [], ◌∷◌, ◌++◌, ◌≡◌, ℕ, suc, ◌≤◌, length}
+use Rattle.rules.specs.declared.Station.{Station}
 use Rattle.rules.specs.declared.Timing.{Timing}
-use Rattle.rules.specs.Lists.{count_from}
 use Rattle.rules.specs.Line.{arrival}
+use Rattle.rules.specs.Trains.{Section, count}
 use Rattle.rules.specs.Answers.{Verdict, value_is, refused}
-use Rattle.line.specs.Station.{station}
-use Rattle.text.specs.Written.{signed}
-use Rattle.section_file.specs.Lines.{refused_word, line, all_lines}
+use Rattle.text.specs.Written.{decimal}
+use Rattle.section_file.specs.Lines.{refused_word, line, station_number}
 
--- the line of the train with number k, where station 1 has `ones` trains
-unfoldable pub kth_line : Timing → ℕ → ℕ → ℕ → List ℕ
-kth_line t ones k departure =
-    line
-    (signed (pos (cond (ltb k ones) 1 2))
-    ∷ signed (pos (cond (ltb k ones) k (k - ones)))
-    ∷ signed (pos departure)
-    ∷ signed (pos (arrival t (station (ltb k ones)) departure)) ∷ [])
+-- the line of the train at a place of its station
+abbrev pub train_at : Timing → Station → ℕ → ℕ → List ℕ
+train_at t s place departure =
+    line (decimal (station_number s) ∷ decimal place ∷ decimal departure ∷ decimal (arrival t s departure) ∷ [])
 
-unfoldable pub lines_of : Timing → ℕ → List ℕ → List ℕ
-lines_of t ones departures = all_lines (map (λ k. kth_line t ones k (get_or departures k 0)) (count_from 0 (length departures)))
+-- the lines of a station's trains from a place on, by their departures
+abbrev pub station_lines : Timing → Station → ℕ → List ℕ → List ℕ
+station_lines t s place [] = []
+station_lines t s place (d ∷ ds) = train_at t s place d ++ station_lines t s (suc place) ds
 
--- an answer's lines, where those of the trains are known
-abbrev pub printed_with : List ℕ → Verdict → List ℕ → List ℕ
-printed_with word (value_is v) trains = line (word ∷ signed v ∷ []) ++ trains
-printed_with word (refused number first second) trains = line (refused_word ∷ signed (pos number) ∷ signed (pos first) ∷ signed (pos second) ∷ [])
+-- the line of a refusal
+abbrev pub refusal_line : ℕ → ℕ → ℕ → List ℕ
+refusal_line number first second = line (refused_word ∷ decimal number ∷ decimal first ∷ decimal second ∷ [])
+
+-- a value is of a departure for each train, and of no more trains than are accepted
+abbrev pub Complete : Section → Verdict → List ℕ → Type 0
+Complete S (value_is v) departures = (length departures ≡ count S) × (count S ≤ 96)
+Complete S (refused number first second) departures = Unit

@@ -1,74 +1,59 @@
-// The answer to a section, planned or judged, put onto the page.
-ghost use Rattle.std.specs.Prelude.{cond, ◌≡◌, ◌≤◌, leb, length};
-ghost use Rattle.rules.specs.Trains.{asked, count};
+// The answer to a file's section, planned or judged, put onto the page.
+ghost use Rattle.std.specs.Prelude.{◌≡◌, ◌++◌, length, map, nat_abs, take};
 ghost use Rattle.section_file.specs.Answer.{plan_lines, judge_lines};
-ghost use Rattle.section_file.specs.Page.{Put};
-ghost use Rattle.section_file.specs.Sized.{Sized};
 
+use crate::layout::File;
 use crate::lines;
-use rules::Timing;
+use text::page::Page;
 
-// How many trains are printed: no section with more than 96 is accepted.
-fn printed_count(count: usize) -> usize
-    ensures printed { result ≡ cond (leb count 96) count 0 }
-    ensures within { result ≤ 96 }
+// Plans a file's section and puts the answer.
+// Nothing is taken from the heap: the departures fit 1,024 places.
+#[tactic(auto, using(refusals::proofs::Table::numbers_positive))]
+pub fn put_plan(page: &mut Page<8192>, file: &File)
+    ensures { page.new ≡ take 8192 (page.old ++ plan_lines file.now.section) }
 {
-    if count <= 96 { count } else { 0 }
+    let section = &file.section;
+    let numbers = costs::numbers(section.objective);
+    let count = section.one.len() / numbers + section.two.len() / numbers;
+    let mut departures = [0; 1024];
+    let departures = &mut departures[..count];
+    let answer = planner::plan(
+        section.objective,
+        section.timing,
+        section.one,
+        section.two,
+        departures,
+    );
+    lines::put_answer(page, b"planned", section, answer, departures);
 }
 
-// Plans a section with as many departures as trains, and puts the answer.
-#[tactic(auto, using(refusals::proofs::Table::numbers_positive))]
-fn put_planned(
-    page: &mut [u8; 8192],
-    objective: u32,
-    timing: Timing,
-    one: &[i32],
-    two: &[i32],
-    departures: &mut [u32],
-) -> usize
-    requires whole_page { length page.old ≡ 8192 }
-    requires one_each { length departures.old ≡ count (asked objective timing one.now two.now) }
-    ensures { Put page.old 0 (plan_lines (asked objective timing one.now two.now)) page.new result }
+// Copies recorded departures, of which none is below 0.
+// By place: of an `iter_mut` under `zip` no clause tells what the loop leaves.
+fn copy(recorded: &[i32], departures: &mut [u32])
+    requires { length departures.old ≡ length recorded.now }
+    ensures { departures.new ≡ map nat_abs recorded.now }
 {
-    let ones = one.len() / costs::numbers(objective);
-    let answer = planner::plan(objective, timing, one, two, departures);
-    let shown = printed_count(departures.len());
-    lines::put_answer(page, b"planned", answer, timing, ones, &departures[..shown])
+    for (k, departure) in recorded.iter().enumerate() {
+        departures[k] = departure.unsigned_abs();
+    }
 }
 
-// Plans a section and puts the answer.
-#[tactic(auto, using(refusals::proofs::Table::numbers_positive))]
-pub fn put_plan(
-    page: &mut [u8; 8192],
-    objective: u32,
-    timing: Timing,
-    one: &[i32],
-    two: &[i32],
-) -> usize
-    requires { Sized page.old one.now two.now }
-    ensures { Put page.old 0 (plan_lines (asked objective timing one.now two.now)) page.new result }
+// Judges the departures that were recorded of a file's section and puts the answer.
+// Nothing is taken from the heap: they fit 512 places.
+#[tactic(auto, using(crate::proofs::Outcomes::judge_complete), unfolding(crate::specs::Lines::judged))]
+pub fn put_judgement(page: &mut Page<8192>, file: &File)
+    ensures { page.new ≡ take 8192 (page.old ++ judge_lines file.now.section file.now.recorded) }
 {
-    let numbers = costs::numbers(objective);
-    let count = one.len() / numbers + two.len() / numbers;
-    let mut departures: [u32; 1024] = [0; 1024];
-    put_planned(page, objective, timing, one, two, &mut departures[..count])
-}
-
-// Judges recorded departures of a section and puts the answer.
-#[tactic(auto, using(refusals::proofs::Table::numbers_positive))]
-pub fn put_judgement(
-    page: &mut [u8; 8192],
-    objective: u32,
-    timing: Timing,
-    one: &[i32],
-    two: &[i32],
-    departures: &[u32],
-) -> usize
-    requires { length page.old ≡ 8192 }
-    ensures { Put page.old 0 (judge_lines (asked objective timing one.now two.now) departures.now) page.new result }
-{
-    let ones = one.len() / costs::numbers(objective);
-    let answer = judge::judge(objective, timing, one, two, departures);
-    let shown = printed_count(departures.len());
-    lines::put_answer(page, b"judged", answer, timing, ones, &departures[..shown])
+    let section = &file.section;
+    let mut departures = [0; 512];
+    let departures = &mut departures[..file.recorded.len()];
+    copy(file.recorded, departures);
+    let answer = judge::judge(
+        section.objective,
+        section.timing,
+        section.one,
+        section.two,
+        departures,
+    );
+    lines::put_answer(page, b"judged", section, answer, departures);
 }

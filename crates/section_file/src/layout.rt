@@ -1,110 +1,78 @@
-// Where the sections of a file stand among its numbers.
-ghost use Rattle.std.specs.Prelude.{◌≤◌, length, ◌≡◌, pos, T};
-ghost use Rattle.std.specs.Int.Signed.{le_z, non_neg};
-ghost use Rattle.rules.specs.Lists.{every};
-ghost use Rattle.section_file.specs.Found.{Parted, Laid};
+// The sections of a file among its numbers.
+ghost use Rattle.std.specs.Prelude.{◌≡◌, option_map, pos};
+ghost use Rattle.std.specs.Int.Signed.{le_z};
+ghost use Rattle.std.specs.List.{list_all};
+ghost use Rattle.section_file.specs.Layout.{section_of, laid_out};
 
-// A section's numbers among all: from a place up to another.
-#[derive(Clone, Copy)]
-pub struct Span {
-    pub start: usize,
-    pub end: usize,
+use rules::{Section, Timing};
+use std::marker::Model;
+
+// A section, and the departures that were recorded of it, none where it is to be planned.
+#[derive(Drop)]
+pub struct File<'a> {
+    pub section: Section<'a>,
+    pub recorded: &'a [i32],
 }
 
-#[derive(Clone, Copy)]
-pub enum Part {
-    Of(Span),
-    Not,
-}
+// Clauses see the file that is meant; no list of it has more than 512 numbers.
+impl<'a> Model for File<'a> {
+    ghost use Rattle.std.specs.Prelude.{map, nat_abs, ◌≤◌, length};
+    ghost use Rattle.rules.specs.Trains.{told};
+    ghost use Rattle.section_file.specs.Layout.{File};
 
-// The heading, and where the three lists stand.
-#[derive(Clone, Copy)]
-pub struct Layout {
-    pub objective: u32,
-    pub running: u32,
-    pub headway: u32,
-    pub one: Span,
-    pub two: Span,
-    pub recorded: Span,
-}
+    ghost Value = { File };
 
-#[derive(Clone, Copy)]
-pub enum Found {
-    File(Layout),
-    Unreadable,
+    ghost view = { λ f. record { section = told f.section; recorded = map nat_abs f.recorded.now } };
+
+    ghost invariant = { λ f. (length f.section.one.now ≤ 512) × (length f.section.two.now ≤ 512) × (length f.recorded.now ≤ 512) };
 }
 
 // Whether no number is below 0.
 fn unsigned(values: &[i32]) -> bool
-    ensures { result ≡ every (le_z (pos 0)) values.now }
+    ensures { result ≡ list_all (le_z (pos 0)) values.now }
 {
-    let mut k = 0;
-    while k < values.len() {
-        if values[k] < 0 {
-            return false;
-        }
-        k += 1;
-    }
-    true
+    values.iter().all(|n| 0 <= *n)
 }
 
-// The section that begins at a place with its count, which is from `least` to `most`.
-fn section(values: &[i32], at: usize, least: i32, most: i32, minus: bool) -> Part
-    requires { (at ≤ length values.now) × T (non_neg least) × T (non_neg most) }
-    ensures { Parted values.now at least most minus result }
+// A section's numbers, and those that follow it. It begins with its count, which is from `least` to `most`.
+fn section(values: &[i32], least: usize, most: usize, minus: bool) -> Option<(&[i32], &[i32])>
+    ensures { option_map (λ p. (p.0.now, p.1.now)) result ≡ section_of least most minus values.now }
 {
-    if values.len() <= at {
-        return Part::Not;
+    let (count, rest) = values.split_first()?;
+    let count = usize::try_from(*count).ok()?;
+    if !(least..=most).contains(&count) {
+        return None;
     }
-    let count = values[at];
-    if count < least {
-        return Part::Not;
-    }
-    if most < count {
-        return Part::Not;
-    }
-    let start = at + 1;
-    let n = count as usize;
-    if values.len() - start < n {
-        return Part::Not;
-    }
-    let end = start + n;
-    if minus | unsigned(&values[start..end]) {
-        return Part::Of(Span { start, end });
-    }
-    Part::Not
+    let (numbers, rest) = rest.split_at_checked(count)?;
+    (minus || unsigned(numbers)).then_some((numbers, rest))
 }
 
-// The layout of a file's numbers.
-pub fn find(values: &[i32]) -> Found
-    ensures { Laid values.now result }
+// The file that numbers are.
+#[tactic(auto, using(crate::proofs::Sections::counted, crate::proofs::Sections::something_more, crate::proofs::Sections::nothing_more), unfolding(crate::specs::Layout::laid_out, rules::specs::Figures::figure))]
+pub fn find(values: &[i32]) -> Option<File<'_>>
+    ensures { result ≡ laid_out values.now }
 {
-    let part = section(values, 0, 3, 3, false);
-    let Part::Of(heading) = part else {
-        return Found::Unreadable;
+    let (heading, rest) = section(values, 3, 3, false)?;
+    let (one, rest) = section(rest, 0, 512, true)?;
+    let (two, rest) = section(rest, 0, 512, true)?;
+    let (recorded, rest) = section(rest, 0, 512, false)?;
+    let [objective, running, headway] = heading else {
+        return None;
     };
-    let part = section(values, heading.end, 0, 512, true);
-    let Part::Of(one) = part else {
-        return Found::Unreadable;
-    };
-    let part = section(values, one.end, 0, 512, true);
-    let Part::Of(two) = part else {
-        return Found::Unreadable;
-    };
-    let part = section(values, two.end, 0, 512, false);
-    let Part::Of(recorded) = part else {
-        return Found::Unreadable;
-    };
-    if recorded.end < values.len() {
-        return Found::Unreadable;
+    if !rest.is_empty() {
+        return None;
     }
-    let first = heading.start;
-    Found::File(Layout {
-        objective: values[first] as u32,
-        running: values[first + 1] as u32,
-        headway: values[first + 2] as u32,
-        one,
-        two,
+    let timing = Timing {
+        running: running.unsigned_abs(),
+        headway: headway.unsigned_abs(),
+    };
+    Some(File {
+        section: Section {
+            objective: objective.unsigned_abs(),
+            timing,
+            one,
+            two,
+        },
         recorded,
     })
 }

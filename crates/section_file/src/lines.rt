@@ -1,139 +1,85 @@
 // The lines of an answer, put onto the page.
-ghost use Rattle.std.specs.Prelude.{cond, [], ◌∷◌, ◌≡◌, ◌+◌, ◌-◌, ◌*◌, ◌≤◌, ltb, length};
-ghost use Rattle.rules.specs.Answers.{value_is, refused, says};
-ghost use Rattle.text.specs.Written.{signed};
-ghost use Rattle.section_file.specs.Lines.{line};
-ghost use Rattle.section_file.specs.Page.{Put};
-ghost use Rattle.section_file.specs.Printing.{kth_line, lines_of, printed_with};
+ghost use Rattle.std.specs.Prelude.{◌≡◌, ◌++◌, ◌∷◌, ◌≤◌, map, take, length};
+ghost use Rattle.rules.specs.Trains.{told};
+ghost use Rattle.rules.specs.Answers.{says};
+ghost use Rattle.text.specs.Written.{decimal, signed};
+ghost use Rattle.section_file.specs.Lines.{line, station_number, printed};
+ghost use Rattle.section_file.specs.Printing.{Complete, refusal_line, station_lines};
 
-use crate::page;
-use rules::{Answer, Outcome, Timing};
+use rules::{Answer, Refusal, Section, Station, Timing};
+use text::page::Page;
 
-// Puts a space and a number.
-fn put_field(page: &mut [u8; 8192], at: usize, n: i64) -> usize
-    requires whole_page { length page.old ≡ 8192 }
-    requires room { at + 21 ≤ 8192 }
-    ensures { Put page.old at (32 ∷ signed n) page.new result }
+// Puts a word, and then numbers, as a line.
+fn put_line(page: &mut Page<8192>, word: &[u8], fields: &[i64])
+    ensures { page.new ≡ take 8192 (page.old ++ line (word.now ∷ map signed fields.now)) }
 {
-    let after = page::put(page, at, b" ");
-    page::put_number(page, after, n)
-}
-
-// Puts three numbers, each after a space, and ends the line.
-fn put_three(page: &mut [u8; 8192], at: usize, a: i64, b: i64, c: i64) -> usize
-    requires whole_page { length page.old ≡ 8192 }
-    requires room { at + 64 ≤ 8192 }
-    ensures { Put page.old at (32 ∷ line (signed a ∷ signed b ∷ signed c ∷ [])) page.new result }
-{
-    let first = put_field(page, at, a);
-    let second = put_field(page, first, b);
-    let third = put_field(page, second, c);
-    page::put(page, third, b"\n")
-}
-
-// The number of the station of train k, where station 1 has `ones` trains.
-fn station_number(ones: usize, k: usize) -> u32
-    ensures { result ≡ cond (ltb k ones) 1 2 }
-{
-    if k < ones { 1 } else { 2 }
-}
-
-// The place of train k in its station's list.
-fn place_of(ones: usize, k: usize) -> usize
-    ensures { result ≡ cond (ltb k ones) k (k - ones) }
-{
-    if k < ones { k } else { k - ones }
-}
-
-// Puts the line of the train with number k. Station 1 has `ones` trains.
-fn put_train(
-    page: &mut [u8; 8192],
-    at: usize,
-    timing: Timing,
-    ones: usize,
-    k: usize,
-    departure: u32,
-) -> usize
-    requires whole_page { length page.old ≡ 8192 }
-    requires room { (at + 84 ≤ 8192) × (k ≤ 96) }
-    ensures { Put page.old at (kth_line timing ones k departure) page.new result }
-{
-    let arrival = line::arrival(timing, k < ones, departure) as i64;
-    let station = station_number(ones, k) as i64;
-    let place = place_of(ones, k) as i64;
-    let after = page::put_number(page, at, station);
-    put_three(page, after, place, departure as i64, arrival)
-}
-
-// Puts a line for each train.
-fn put_trains(
-    page: &mut [u8; 8192],
-    at: usize,
-    timing: Timing,
-    ones: usize,
-    departures: &[u32],
-) -> usize
-    requires whole_page { length page.old ≡ 8192 }
-    requires room { (length departures.now ≤ 96) × (at + length departures.now * 84 ≤ 8192) }
-    ensures { Put page.old at (lines_of timing ones departures.now) page.new result }
-{
-    let mut end = at;
-    let mut k = 0;
-    while k < departures.len() {
-        end = put_train(page, end, timing, ones, k, departures[k]);
-        k += 1;
+    page.put(word);
+    for field in fields {
+        page.put(b" ");
+        page.put_number(*field);
     }
-    end
+    page.put(b"\n");
 }
 
-// Puts a word and a value as a line, and the trains' lines.
-fn put_value(
-    page: &mut [u8; 8192],
-    word: &[u8],
-    value: i64,
-    timing: Timing,
-    ones: usize,
-    departures: &[u32],
-) -> usize
-    requires whole_page { length page.old ≡ 8192 }
-    requires short { (length word.now ≤ 7) × (length departures.now ≤ 96) }
-    ensures { Put page.old 0 (printed_with word.now (value_is value) (lines_of timing ones departures.now)) page.new result }
+// A station's number, as its trains' lines begin.
+#[tactic(auto, unfolding(text::specs::Written::decimal))]
+fn station_word(station: Station) -> &'static [u8]
+    ensures { result.now ≡ decimal (station_number station) }
 {
-    let named = page::put(page, 0, word);
-    let valued = put_field(page, named, value);
-    let ended = page::put(page, valued, b"\n");
-    put_trains(page, ended, timing, ones, departures)
+    match station {
+        Station::One => b"1",
+        Station::Two => b"2",
+    }
+}
+
+// Puts a line for each train of a station, from its departures.
+// A place and an arrival are proved to be numbers of an i64.
+fn put_trains(page: &mut Page<8192>, timing: Timing, station: Station, departures: &[u32])
+    requires room { length page.old ≤ 8192 }
+    requires few { length departures.now ≤ 96 }
+    ensures { page.new ≡ take 8192 (page.old ++ station_lines timing station 0 departures.now) }
+{
+    for (place, departure) in departures.iter().enumerate() {
+        let arrival = line::arrival(timing, station, *departure);
+        put_line(
+            page,
+            station_word(station),
+            &[place as i64, i64::from(*departure), arrival as i64],
+        );
+    }
 }
 
 // Puts a refusal as a line.
-fn put_refusal(page: &mut [u8; 8192], number: u32, first: u32, second: u32) -> usize
-    requires { length page.old ≡ 8192 }
-    ensures { Put page.old 0 (printed_with [] (refused number first second) []) page.new result }
+#[tactic(auto, unfolding(crate::specs::Lines::refused_word))]
+fn put_refusal(page: &mut Page<8192>, refusal: Refusal)
+    ensures { page.new ≡ take 8192 (page.old ++ refusal_line refusal.number refusal.first refusal.second) }
 {
-    let named = page::put(page, 0, b"refused");
-    put_three(page, named, number as i64, first as i64, second as i64)
+    let number = i64::from(refusal.number);
+    let first = i64::from(refusal.first);
+    let second = i64::from(refusal.second);
+    put_line(page, b"refused", &[number, first, second]);
 }
 
-// Puts an answer: a word with the value and the trains' lines, or the refusal.
+// Puts an answer to a section, about the departures of its trains: a word with the value and the trains' lines, or the refusal.
+#[tactic(auto, using(refusals::proofs::Table::numbers_positive))]
 pub fn put_answer(
-    page: &mut [u8; 8192],
+    page: &mut Page<8192>,
     word: &[u8],
+    section: &Section,
     answer: Answer,
-    timing: Timing,
-    ones: usize,
     departures: &[u32],
-) -> usize
-    requires whole_page { length page.old ≡ 8192 }
-    requires short { (length word.now ≤ 7) × (length departures.now ≤ 96) }
-    ensures { Put page.old 0 (printed_with word.now (says answer) (lines_of timing ones departures.now)) page.new result }
+)
+    requires { Complete (told section.now) (says answer) departures.now }
+    ensures { page.new ≡ take 8192 (page.old ++ printed word.now (told section.now) (says answer) departures.now) }
 {
-    let outcome = answer.outcome;
-    match outcome {
-        Outcome::Value(value) => put_value(page, word, value, timing, ones, departures),
-        Outcome::Refused {
-            number,
-            first,
-            second,
-        } => put_refusal(page, number, first, second),
+    match answer.outcome {
+        Ok(value) => {
+            put_line(page, word, &[value]);
+            let ones = section.one.len() / costs::numbers(section.objective);
+            let (one, two) = departures.split_at(ones);
+            put_trains(page, section.timing, Station::One, one);
+            put_trains(page, section.timing, Station::Two, two);
+        }
+        Err(refusal) => put_refusal(page, refusal),
     }
 }

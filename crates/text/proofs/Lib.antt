@@ -1,8 +1,7 @@
 -- Laws that the proofs of the functions share.
-pub mod Cut
-pub mod Amounts
-pub mod Scans
-pub mod Signs
 pub mod Decimal
-pub mod Adding
+pub mod Pages
+pub mod Amounts
+pub mod Splitting
+pub mod Scans
 pub mod Unique

@@ -1,21 +1,16 @@
 -- The numbers that words are: decimal, with no leading zero, in 32 signed bits; a minus, but no plus and no "-0".
 -- A word that is no such number makes the whole text unreadable.
-use Rattle.std.specs.Prelude.{Bool, true, false, not, ◌&&◌, ◌||◌, cond, List, [], ◌∷◌, ℕ, ◌+◌, ◌-◌, ◌*◌, leb, eqb, ℤ, pos, neg_ℤ, length}
-use Rattle.text.specs.declared.read.Number.{Number}
-use Rattle.text.specs.declared.read.Number.TheVariants.{Is, Not}
+use Rattle.std.specs.Prelude.{Bool, false, not, ◌&&◌, ◌||◌, cond, Option, Some, None, List, [], ◌∷◌, ℕ, ◌+◌, ◌-◌, ◌*◌, leb, eqb, ℤ, pos, neg_ℤ, length}
+use Rattle.std.specs.List.{list_all}
 use Rattle.text.specs.Words.{words}
 
 unfoldable pub digit : ℕ → Bool
 digit byte = leb 48 byte && leb byte 57
 
-abbrev pub all_digits : List ℕ → Bool
-all_digits [] = true
-all_digits (b ∷ bs) = digit b && all_digits bs
-
 -- digits, at least one, and a zero first only where it stands alone
 abbrev pub plain : List ℕ → Bool
 plain [] = false
-plain (b ∷ bs) = all_digits (b ∷ bs) && (not (eqb b 48) || eqb (length bs) 0)
+plain (b ∷ bs) = list_all digit (b ∷ bs) && (not (eqb b 48) || eqb (length bs) 0)
 
 -- what digits come to, after what those before them do
 abbrev pub amount_on : ℕ → List ℕ → ℕ
@@ -25,30 +20,27 @@ amount_on n (b ∷ bs) = amount_on (n * 10 + (b - 48)) bs
 unfoldable pub amount : List ℕ → ℕ
 amount word = amount_on 0 word
 
-unfoldable pub positive : List ℕ → Number
-positive word = cond (plain word && leb (amount word) 2147483647) (Is (pos (amount word))) Not
+unfoldable pub positive : List ℕ → Option ℤ
+positive word = cond (plain word && leb (amount word) 2147483647) (Some (pos (amount word))) None
 
-unfoldable pub negative : List ℕ → Number
-negative word = cond (plain word && leb 1 (amount word) && leb (amount word) 2147483648) (Is (neg_ℤ (pos (amount word)))) Not
+unfoldable pub negative : List ℕ → Option ℤ
+negative word = cond (plain word && leb 1 (amount word) && leb (amount word) 2147483648) (Some (neg_ℤ (pos (amount word)))) None
 
 -- a word as a number; 45 is the minus
-abbrev pub number : List ℕ → Number
-number [] = Not
+abbrev pub number : List ℕ → Option ℤ
+number [] = None
 number (b ∷ bs) = cond (eqb b 45) (negative bs) (positive (b ∷ bs))
 
--- the numbers of a text, or that it is unreadable
-pub data Numbers : Type 0 where
-  all : List ℤ → Numbers
-  unreadable : Numbers
+-- a word's number, where it is one, before those of the words after it, where they all are
+abbrev pub after : Option ℤ → Option (List ℤ) → Option (List ℤ)
+after (Some z) (Some zs) = Some (z ∷ zs)
+after (Some z) None = None
+after None zs = None
 
-abbrev pub after : Number → Numbers → Numbers
-after (Is z) (all zs) = all (z ∷ zs)
-after (Is z) unreadable = unreadable
-after Not ns = unreadable
-
-abbrev pub each_number : List (List ℕ) → Numbers
-each_number [] = all []
+abbrev pub each_number : List (List ℕ) → Option (List ℤ)
+each_number [] = Some []
 each_number (w ∷ ws) = after (number w) (each_number ws)
 
-unfoldable pub numbers : List ℕ → Numbers
+-- the numbers of a text, or none where it is unreadable
+unfoldable pub numbers : List ℕ → Option (List ℤ)
 numbers text = each_number (words text)

@@ -1,14 +1,8 @@
 -- What the reader's private functions answer, beside the grammar's own definitions.
 -- No public promise cites these.
-use Rattle.std.specs.Prelude.{cond, List, [], ◌∷◌, ℕ, suc, min}
-use Rattle.text.specs.Words.{parts}
-use Rattle.text.specs.Numbers.{amount}
+use Rattle.std.specs.Prelude.{◌&&◌, cond, Option, Some, None, List, ℕ, leb}
+use Rattle.text.specs.Numbers.{plain, amount}
 
--- how long the word is that a text begins with; 0 where there is none
-abbrev pub word_length : List ℕ → ℕ
-word_length [] = 0
-word_length (b ∷ bs) = cond (parts b) 0 (suc (word_length bs))
-
--- a word's amount, where it is at most what any number's is, and else one more than that
-unfoldable pub capped : List ℕ → ℕ
-capped word = min (amount word) 2147483649
+-- what a plain word's digits come to, where that is a number of 32 bits
+unfoldable pub held : List ℕ → Option ℕ
+held word = cond (plain word && leb (amount word) 4294967295) (Some (amount word)) None

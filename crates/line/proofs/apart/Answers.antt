@@ -3,8 +3,9 @@ use borrow.Author.Tests.{leb-true, leb-false, le-leb, lt-leb}
 use Rattle.std.proofs.Common.{Bool, true, false, ◌||◌, ◌≡◌, refl, arith, ℕ, ◌+◌, ◌-◌}
 use lib.Dec.{leb}
 use Rattle.rules.specs.declared.Timing.{Timing}
-use Rattle.rules.specs.Line.{Station, one, two, gap, apart}
-use Rattle.line.specs.Station.{station}
+use Rattle.rules.specs.declared.Station.{Station}
+use Rattle.rules.specs.declared.Station.TheVariants.{One as one, Two as two}
+use Rattle.rules.specs.Line.{gap, apart}
 use Rattle.line.proofs.apart.Goals as goal
 
 both_ways : (t : Timing) (s s' : Station) → gap t s' s ≡ gap t s s'
@@ -23,5 +24,5 @@ pub returns : goal.returns
 unfolding apart
 returns c =
     let s = c.args in
-    rw (c.gap.ensures, c.between.ensures, both_ways s.timing (station s.one) (station s.other))
-    (reached s.departure s.departed (gap s.timing (station s.one) (station s.other)) _ _ refl refl)
+    rw (c.gap.ensures, c.abs_diff.ensures, both_ways s.timing s.station s.other)
+    (reached s.departure s.departed (gap s.timing s.station s.other) _ _ refl refl)

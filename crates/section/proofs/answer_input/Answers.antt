@@ -1,9 +1,8 @@
 -- What was read is all of the input, or longer than a file may be, as the input then is: either way the answer to it is the input's.
-use Rattle.std.proofs.Common.{◌≡◌, refl, ℕ, Bool, true, false, ltb, ltb-false, ◌<◌, List, ◌++◌, Option, None, Some, IfSome, rules, arith, length, sym, ap, ◌∙◌, subst, append-nil, length-append, length-take-le}
+use Rattle.std.proofs.Common.{◌≡◌, refl, ℕ, Bool, true, false, ltb, ltb-false, ◌<◌, List, ◌++◌, Option, None, Some, IfSome, rules, arith, length, sym, ap, ◌∙◌, subst, append-nil, length-append, length-take-le, take}
 use borrow.Author.Tests.{lt-leb, ltb-true}
 use Rattle.std.specs.Io.KnownBytes.{Appends, Consumes, IsAtEnd}
 use Rattle.std.proofs.lemmas.Result.{on_ok_weaker}
-use Rattle.text.proofs.Adding.{first_of}
 use Rattle.section_file.specs.Answer.{read, answer}
 use Rattle.section.proofs.answer_input.Goals as goal
 
@@ -28,18 +27,11 @@ written (Some xs) old new text bytes e all h = subst (Appends old new) (e ∙ al
 
 pub returns : goal.returns
 returns g c =
-    let printed = c.answer_text-printed.ensures in
     let taken = c.in_ok-n.ensures in
     let room : length c.read_full.new.text ≡ 16385 = search rules in
     let count = length-take-le c.in_ok-n.n c.read_full.new.text taken.within in
+    let bytes : c.as_bytes-answer.result.now ≡ answer (take c.in_ok-n.n c.read_full.new.text) = search rules in
     on_ok_weaker
     c.write_all.result
-    (written
-    _
-    _
-    _
-    _
-    _
-    (first_of _ _ printed.bytes printed.count)
-    (all_read _ _ _ taken.bytes (λ less. taken.ended (omega arith))))
+    (written _ _ _ _ _ bytes (all_read _ _ _ taken.bytes (λ less. taken.ended (omega arith))))
     c.write_all.ensures.bytes

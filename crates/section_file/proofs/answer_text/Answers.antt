@@ -1,6 +1,8 @@
--- What is put from the page's start is the whole answer.
-use Rattle.text.proofs.Adding.{adds_over}
+-- The page has room for the whole answer.
+use Rattle.section_file.proofs.Outcomes.{whole_answer}
 use Rattle.section_file.proofs.answer_text.Goals as goal
 
-pub returns-clause-bytes : goal.returns-clause-bytes
-returns-clause-bytes c = (adds_over c.put_text-count.ensures.added).0
+pub returns : goal.returns
+returns c =
+    let (written, within) = whole_answer c.args.text.now _ _ c.new-page.ensures c.put_text.ensures in
+    record { written = written; within = within }

@@ -1,7 +1,9 @@
 -- Each product is of at most 24 gaps, and so the sum fits.
 use Rattle.std.proofs.Common.{◌≡◌, ℕ, ◌-◌, ◌*◌, ◌≤◌, T, arith}
 use Rattle.rules.specs.declared.Timing.{Timing}
-use Rattle.rules.specs.Line.{Station, one, two, good_timing, gap}
+use Rattle.rules.specs.declared.Station.{Station}
+use Rattle.rules.specs.declared.Station.TheVariants.{One as one, Two as two}
+use Rattle.rules.specs.Line.{good_timing, gap}
 use Rattle.rules.proofs.Line.{gap_most}
 use Rattle.planner.proofs.Near.{few_short}
 use Rattle.planner.proofs.cells.seconds.Goals as goal

@@ -1,22 +1,22 @@
--- The lists are short enough for a departure of each train.
-use mathlib.Core.Path.{◌∙◌}
-use native.Mathlib.Nat.{div-le_self}
-use native.Mathlib.Omega.{arith}
-use Prim.Native.Nat.{◌+◌, ◌/◌, ◌≤◌}
-use lib.ListN.{length}
-use lib.Seq.{length-take-le}
-use Rattle.section_file.proofs.Outcomes.{trains_found}
+-- What is put is what the planner's answer says, with the lines of the departures that it leaves.
+use Rattle.std.proofs.Common.{◌∙◌, ap, length-take-le, take, ◌++◌}
+use Rattle.rules.specs.Trains.{told}
+use Rattle.section_file.specs.Lines.{planned}
+use Rattle.section_file.proofs.Trains.{count_found, places_enough}
+use Rattle.section_file.proofs.Outcomes.{plan_complete, plan_printed}
 use Rattle.section_file.proofs.answers.put_plan.Goals as goal
 
-pub put_planned-requires-clause-one_each : goal.put_planned-requires-clause-one_each
-put_planned-requires-clause-one_each c =
-    let n = c.numbers-numbers.result in
-    let room : length c.args.one.now / n + length c.args.two.now / n ≤ 1024 =
-    omega (
-      arith,
-      c.requires.first_few,
-      c.requires.second_few,
-      div-le_self (length c.args.one.now) n,
-      div-le_self (length c.args.two.now) n,
-    ) in
-    length-take-le _ _ room ∙ (trains_found _ _ _ _ c.numbers-numbers.ensures).1
+pub put_answer-requires : goal.put_answer-requires
+put_answer-requires c =
+    let S = told c.file.inside.section in
+    let room = places_enough S.one S.two c.numbers-numbers.result c.file.invariant.0 c.file.invariant.1 in
+    rw (c.plan-answer.ensures.answers, c.plan-answer.ensures.leaves)
+    (plan_complete S _ (length-take-le _ _ room ∙ count_found S c.numbers-numbers.ensures))
+
+pub returns : goal.returns
+unfolding planned
+returns c =
+    let S = told c.file.inside.section in
+    let room = places_enough S.one S.two c.numbers-numbers.result c.file.invariant.0 c.file.invariant.1 in
+    rw (← c.file.view_is, c.put_answer.ensures, c.plan-answer.ensures.answers, c.plan-answer.ensures.leaves)
+    (ap (λ l. take 8192 (c.args.page.now ++ l)) (plan_printed S _ (length-take-le _ _ room ∙ count_found S c.numbers-numbers.ensures) planned))

@@ -1,66 +1,38 @@
--- A section is told by its count, and read where there are as many numbers.
-use borrow.Author.Rules.{rules}
-use mathlib.Core.Path.{◌≡◌}
-use mir.Facts.{to_z-of_z}
-use mir.Syntax.{w32}
-use mir.Val.{to_z, of_z}
-use native.Mathlib.Nat.{add-sub_cancel_left}
-use Prim.Native.Nat.{◌+◌}
-use lib.IntN.{ℤ, pos, nat_abs}
-use lib.ListN.{get_or, take, drop}
-use lib.Signed.{le_z}
-use Rattle.rules.specs.Lists.{every}
-use Rattle.section_file.proofs.Sections.{past_end, too_few, too_many, cut_short, minus_found, is_section}
+-- A section begins with its count: a number that is not below 0, within its bounds, and of which as many follow.
+use Rattle.std.proofs.Common.{rules, ◌≡◌, sym, ◌∙◌, true, false, ◌&&◌, ◌||◌, ◌≤◌, length, take, drop, ◌∷◌, pos, ◌≤ℤ◌, leb}
+use Rattle.std.specs.Int.Signed.{le_z}
+use Rattle.std.specs.List.{list_all}
+use Rattle.section_file.proofs.Sections.{below_0, out_of_range, begins, shown}
 use Rattle.section_file.proofs.layout.section.Goals as goal
+use Rattle.section_file.proofs.layout.section.Goals.{then-minus, else-minus}
 
-pub returns-then-values-at : goal.returns-then-values-at
-returns-then-values-at c = past_end c.if-values-at.true
+pub returns-in_err-count-2 : goal.returns-in_err-count-2
+returns-in_err-count-2 c =
+    let negative : pos 0 ≤ℤ c.in_ok-count.count.now → ⊥ = search rules in
+    let starts : c.args.values.now ≡ c.in_ok-count.count.now ∷ c.in_ok-count.rest.now = search rules in
+    rw (c.from_residual-in_err-count-2.ensures, starts) (sym (below_0 _ _ _ _ _ negative))
 
-pub returns-then-count-least : goal.returns-then-count-least
-returns-then-count-least c =
-    let n : ℤ = get_or c.args.values.now c.args.at (pos 0) in
-    let back : to_z w32 (of_z w32 n) ≡ n = search rules in
-    let less = simp (to_z-of_z c.ranges.least, back) at c.if-count-least.true in
-    too_few _ _ _ _ _ c.if-values-at.false c.requires.1 c.requires.2 less
-
-pub returns-then-most-count : goal.returns-then-most-count
-returns-then-most-count c =
-    let n : ℤ = get_or c.args.values.now c.args.at (pos 0) in
-    let back : to_z w32 (of_z w32 n) ≡ n = search rules in
-    let enough = simp (to_z-of_z c.ranges.least, back) at c.if-count-least.false in
-    let more = simp (to_z-of_z c.ranges.most, back) at c.if-most-count.true in
-    too_many _ _ _ _ _ c.if-values-at.false c.requires.1 c.requires.2 enough more
-
-pub returns-then-values-start : goal.returns-then-values-start
-returns-then-values-start c =
-    let n : ℤ = get_or c.args.values.now c.args.at (pos 0) in
-    let back : to_z w32 (of_z w32 n) ≡ n = search rules in
-    let enough = simp (to_z-of_z c.ranges.least, back) at c.if-count-least.false in
-    let few = simp (to_z-of_z c.ranges.most, back) at c.if-most-count.false in
-    let short = rw back at c.if-values-start.true in
-    cut_short _ _ _ _ _ c.if-values-at.false c.requires.1 c.requires.2 enough few short
-
-pub returns-then-minus-unsigned : goal.returns-then-minus-unsigned
-returns-then-minus-unsigned c =
-    let n : ℤ = get_or c.args.values.now c.args.at (pos 0) in
-    let back : to_z w32 (of_z w32 n) ≡ n = search rules in
-    let enough = simp (to_z-of_z c.ranges.least, back) at c.if-count-least.false in
-    let few = simp (to_z-of_z c.ranges.most, back) at c.if-most-count.false in
-    let allowed : c.unsigned.result ≡ every (le_z (pos 0)) (take (nat_abs n) (drop (c.args.at + 1) c.args.values.now)) =
-    rw (c.unsigned.ensures, back, add-sub_cancel_left) in
-    let room = rw back at c.if-values-start.false in
-    rw back
-    (is_section _ _ _ _ _ c.if-values-at.false c.requires.1 c.requires.2 enough few room
-    (rw (← allowed) c.if-minus-unsigned.true))
+pub returns-then-not-contains : goal.returns-then-not-contains
+returns-then-not-contains c =
+    let counted : c.in_ok-count.count.now ≡ pos c.in_ok-count-2.count = search rules in
+    let starts : c.args.values.now ≡ c.in_ok-count.count.now ∷ c.in_ok-count.rest.now = search rules in
+    let out : leb c.args.least c.in_ok-count-2.count && leb c.in_ok-count-2.count c.args.most ≡ false = search rules in
+    rw (starts, counted) (sym (out_of_range _ _ _ _ _ out))
 
 pub returns : goal.returns
 returns c =
-    let n : ℤ = get_or c.args.values.now c.args.at (pos 0) in
-    let back : to_z w32 (of_z w32 n) ≡ n = search rules in
-    let enough = simp (to_z-of_z c.ranges.least, back) at c.if-count-least.false in
-    let few = simp (to_z-of_z c.ranges.most, back) at c.if-most-count.false in
-    let allowed : c.unsigned.result ≡ every (le_z (pos 0)) (take (nat_abs n) (drop (c.args.at + 1) c.args.values.now)) =
-    rw (c.unsigned.ensures, back, add-sub_cancel_left) in
-    let room = rw back at c.if-values-start.false in
-    minus_found _ _ _ _ _ c.if-values-at.false c.requires.1 c.requires.2 enough few room
-    (rw (← allowed) c.if-minus-unsigned.false)
+    let n = c.in_ok-count-2.count in
+    let rest = c.in_ok-count.rest.now in
+    let counted : c.in_ok-count.count.now ≡ pos n = search rules in
+    let starts : c.args.values.now ≡ c.in_ok-count.count.now ∷ rest = search rules in
+    let within : leb c.args.least n && leb n c.args.most ≡ true = search rules in
+    let first : c.in_ok-numbers.numbers.now ≡ take n rest = search rules in
+    let others : c.in_ok-numbers.rest.now ≡ drop n rest = search rules in
+    let room : n ≤ length rest = search rules in
+    let allows : c.if-minus.then_some ≡ (c.args.minus || list_all (le_z (pos 0)) (take n rest)) =
+    elim c.if-minus.branch [
+      | then-minus w ↦ rw w.if-minus.true (w.then_some-is ∙ w.if-minus.true)
+      | else-minus w ↦ rw (w.if-minus.false, ← first, ← w.unsigned.ensures) w.then_some-is
+    ] in
+    rw (starts, counted, c.then_some.ensures, begins c.args.least c.args.most c.args.minus rest n within room, ← allows, ← first, ← others)
+    (shown c.if-minus.then_some c.in_ok-numbers.numbers c.in_ok-numbers.rest)

@@ -1,29 +1,32 @@
--- One line more is put after those so far, and it has room.
-use borrow.Author.Rules.{rules}
-use mathlib.Core.Path.{◌≡◌}
-use native.Mathlib.Omega.{arith}
-use Prim.Native.Nat.{◌<◌, ◌^◌}
-use lib.ListN.{length, get_or}
-use Rattle.section_file.specs.Printing.{kth_line, lines_of}
-use Rattle.section_file.proofs.Puts.{put_on, line_room}
-use Rattle.section_file.proofs.Trains.{next_line}
+-- A line more is put, of the next departure.
+use Rattle.std.proofs.Common.{◌≡◌, sym, ◌∙◌, arith, rules, get_or, ◌<◌, ◌^◌, append-nil, length-take, pos, to_z, of_z, w64}
+use mir.Facts.{to_z_pos}
+use lib.ListN.{drop_of_length-le}
+use Rattle.std.proofs.lemmas.List.{take_all}
+use Rattle.rules.specs.Line.{running, arrival}
+use Rattle.section_file.proofs.Printed.{train_on}
 use Rattle.section_file.proofs.lines.put_trains.Goals as goal
 
-pub loop-k-preserved : goal.loop-k-preserved
-loop-k-preserved c =
-    let k = c.loop-k.k in
+pub overflow_cast-arrival : goal.overflow_cast-arrival
+unfolding arrival running
+overflow_cast-arrival c = record { sfits = omega (arith, c.arrival-arrival.ensures, c.from.type_inv) }
+
+pub loop-place-preserved : goal.loop-place-preserved
+unfolding arrival running
+loop-place-preserved c =
+    let k = c.loop-place.place in
     let departures = c.args.departures.now in
-    let departure_fits : get_or departures k 0 < 2 ^ 32 = omega (arith, c.type_inv.departures k) in
-    let running_fits : c.args.timing.running < 2 ^ 32 = search rules in
-    let put = c.put_train-end.ensures in (
-      omega arith,
-      omega (arith, put.added.ends, line_room c.args.timing c.args.ones k (get_or departures k 0) (omega arith) departure_fits running_fits),
-      rw (next_line (λ i. kth_line c.args.timing c.args.ones i (get_or departures i 0)) k)
-          (put_on c.loop-k.invariant.2 put),
-    )
+    let place : to_z w64 k ≡ pos k = search rules in
+    let departure : to_z w64 (of_z w64 c.from.result) ≡ pos (get_or departures k 0) = search rules in
+    let small : c.arrival-arrival.result < 2 ^ 63 = omega (arith, c.arrival-arrival.ensures, c.from.type_inv) in
+    let arrives : to_z w64 c.arrival-arrival.result ≡ pos c.arrival-arrival.result = to_z_pos w64 small in
+    record {
+      room = rw (c.put_line.ensures, length-take) (omega arith);
+      whole = rw (c.put_line.ensures, c.station_word.ensures, place, departure, arrives, c.arrival-arrival.ensures)
+          (train_on 8192 c.loop-place.page c.args.timing c.args.station departures k c.loop-place-test.true ∙ c.loop-place.invariant.whole);
+    }
 
 pub returns : goal.returns
-unfolding lines_of
 returns c =
-    let all : c.loop-k.k ≡ length c.args.departures.now = omega arith in
-    rw all at c.loop-k.invariant.2
+    sym (take_all 8192 c.loop-place.page c.loop-place.invariant.room)
+    ∙ rw (drop_of_length-le c.args.departures.now c.loop-place-test.false, append-nil) at c.loop-place.invariant.whole

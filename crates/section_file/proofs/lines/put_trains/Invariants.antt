@@ -1,14 +1,12 @@
--- The loop's invariant: the lines of the trains so far are put, and have taken no more than their room.
-use Rattle.std.proofs.Common.{length, ◌-◌, ◌+◌, ◌*◌, ◌≤◌}
-use Rattle.section_file.specs.Page.{Put}
-use Rattle.section_file.proofs.Trains.{so_far}
+-- The loop's invariant: with the lines that are left, the page has the station's.
+use Rattle.std.proofs.Common.{◌≡◌, ◌≤◌, ◌++◌, length, take, drop}
+use Rattle.section_file.specs.Printing.{station_lines}
 use Rattle.section_file.proofs.lines.put_trains.Given as goal
 
-abbrev pub invariant-loop-k : goal.invariant-loop-k
-invariant-loop-k l =
-    (l.k ≤ length l.departures) ×
-    (l.end ≤ l.at + l.k * 84) ×
-    Put l.fn.page l.at (so_far l.timing l.ones l.departures l.k) l.page l.end
-
-abbrev pub decreases-loop-k : goal.decreases-loop-k
-decreases-loop-k l = length l.departures - l.k
+abbrev pub invariant-loop-place : goal.invariant-loop-place
+invariant-loop-place l = record {
+  room : length l.page ≤ 8192;
+  whole :
+      take 8192 (l.page ++ station_lines l.timing l.station l.place (drop l.place l.departures))
+      ≡ take 8192 (l.fn.page ++ station_lines l.timing l.station 0 l.departures);
+}
