@@ -9,7 +9,7 @@ use lib.IntN.{ℤ, pos}
 use lib.Signed.{le_z, lt_z}
 use Rattle.rules.specs.Lists.{those, every, count_from}
 use Rattle.rules.specs.Figures.{Step, figure, within, is_zero, step_count, steps, used, unused, last_cost, row_cost, good_row}
-use Rattle.costs.specs.Steps.{bounded, above, rises, nothing, good_step}
+use Rattle.costs.specs.Steps.{bounded, above, climbs, nothing, good_step}
 use lib.Dec.{eqb}
 use Rattle.rules.proofs.Lists.{those_append}
 use Rattle.costs.proofs.Stretches.{every_map, every_both, every_split, neighbours_map, last_cost_append, count_last, take_count, drop_count}
@@ -49,15 +49,15 @@ so_far_more x arrival k =
     rw (map-append (step x) (count_from 0 k), those_append, last_cost_append, zero-add k)
     (grind arith))
 
-rises_after : (x : List ℤ) (k n : ℕ) → every (rises x) (count_from (suc k) n) ≡ every (above x) (count_from (suc k) n)
-rises_after x k zero = refl
-rises_after x k (suc n) =
+climbs_after : (x : List ℤ) (k n : ℕ) → every (climbs x) (count_from (suc k) n) ≡ every (above x) (count_from (suc k) n)
+climbs_after x k zero = refl
+climbs_after x k (suc n) =
     let later : eqb (suc k) 0 ≡ false = grind arith in
-    rw (later, rises_after x (suc k) n)
+    rw (later, climbs_after x (suc k) n)
 
-all_rise : (x : List ℤ) (n : ℕ) → every (rises x) (count_from 0 n) ≡ every (above x) (count_from 1 (n - 1))
+all_rise : (x : List ℤ) (n : ℕ) → every (climbs x) (count_from 0 n) ≡ every (above x) (count_from 1 (n - 1))
 all_rise x zero = refl
-all_rise x (suc n) = let others : suc n - 1 ≡ n = omega arith in rw others (rises_after x 0 n)
+all_rise x (suc n) = let others : suc n - 1 ≡ n = omega arith in rw others (climbs_after x 0 n)
 
 -- the rule by the places of the steps, of which n are used
 pub good_row_tests : (x : List ℤ) (n : ℕ) → n ≡ many x
@@ -70,13 +70,13 @@ good_row_tests x n e =
       e,
       used_steps x,
       unused_steps x,
-      rw whole at (every_split (λ k. bounded x k && rises x k) (nothing x) (many x) 0 (many x) (8 - many x) (omega arith)),
+      rw whole at (every_split (λ k. bounded x k && climbs x k) (nothing x) (many x) 0 (many x) (8 - many x) (omega arith)),
       neighbours_map (λ s t. lt_z s.start t.start) (step x) 0 (many x),
       neighbours_map (λ s t. le_z s.cost t.cost) (step x) 0 (many x),
       every_map (λ s. le_z s.start (pos 1000000)) (step x) used_ones,
       every_map (λ s. within (pos 0) (pos 1000000) s.cost) (step x) used_ones,
       every_map (λ s. is_zero s.start && is_zero s.cost) (step x) (count_from (many x) (8 - many x)),
-      every_both (bounded x) (rises x) used_ones,
+      every_both (bounded x) (climbs x) used_ones,
       all_rise x (many x),
       every_both (λ k. le_z (figure x (1 + k)) (pos 1000000)) (λ k. within (pos 0) (pos 1000000) (figure x (9 + k))) used_ones,
       every_both (λ k. lt_z (figure x (1 + (k - 1))) (figure x (1 + k))) (λ k. le_z (figure x (9 + (k - 1))) (figure x (9 + k))) (count_from 1 (many x - 1)),

@@ -4,8 +4,8 @@ use Rattle.rules.specs.Objectives.{Objective, larger, lateness, weighted, by_row
 use Rattle.costs.specs.declared.Aim.{Aim}
 use Rattle.costs.specs.declared.Aim.TheVariants.{Lateness, Weighted, Summed, Largest}
 
-abbrev pub objective_of : Aim → Objective
-objective_of Lateness = lateness
-objective_of Weighted = weighted
-objective_of Summed = by_rows ◌+ℤ◌
-objective_of Largest = by_rows larger
+abbrev pub row_of : Aim → Objective
+row_of Lateness = lateness
+row_of Weighted = weighted
+row_of Summed = by_rows ◌+ℤ◌
+row_of Largest = by_rows larger

@@ -11,12 +11,12 @@ abbrev pub above : List ℤ → ℕ → Bool
 above x k = lt_z (figure x (1 + (k - 1))) (figure x (1 + k)) && le_z (figure x (9 + (k - 1))) (figure x (9 + k))
 
 -- the first one has none before it
-abbrev pub rises : List ℤ → ℕ → Bool
-rises x k = cond (eqb k 0) true (above x k)
+abbrev pub climbs : List ℤ → ℕ → Bool
+climbs x k = cond (eqb k 0) true (above x k)
 
 abbrev pub nothing : List ℤ → ℕ → Bool
 nothing x k = is_zero (figure x (1 + k)) && is_zero (figure x (9 + k))
 
--- a used one is within bounds and rises, any other is 0
+-- a used one is within bounds and climbs, any other is 0
 abbrev pub good_step : List ℤ → ℕ → ℕ → Bool
-good_step x used k = cond (ltb k used) (bounded x k && rises x k) (nothing x k)
+good_step x used k = cond (ltb k used) (bounded x k && climbs x k) (nothing x k)

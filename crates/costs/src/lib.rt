@@ -5,8 +5,8 @@
 ghost use Rattle.std.specs.Prelude.{◌≡◌, ◌<◌, ◌+◌, min, pos};
 ghost use Rattle.rules.specs.Figures.{figure, within, step_count, good_row, row_cost};
 ghost use Rattle.rules.specs.Objectives.{aim_of};
-ghost use Rattle.costs.specs.Aims.{objective_of};
-ghost use Rattle.costs.specs.Steps.{rises, good_step};
+ghost use Rattle.costs.specs.Aims.{row_of};
+ghost use Rattle.costs.specs.Steps.{climbs, good_step};
 ghost use Rattle.costs.specs.Held.{held};
 
 // A row of the table.
@@ -22,7 +22,7 @@ impl Aim {
     // The row of an objective's number. The rules give every number one (docs/DECISIONS.md, 4), so the public functions take numbers: an enum has fewer.
     #[tactic(auto, unfolding(rules::specs::Objectives::aim_of))]
     fn of(objective: u32) -> Aim
-        ensures { aim_of objective ≡ objective_of result }
+        ensures { aim_of objective ≡ row_of result }
     {
         match objective {
             1 => Aim::Lateness,
@@ -65,7 +65,7 @@ fn figure(x: &[i32], k: usize) -> i32
     x.get(k).copied().unwrap_or(0)
 }
 
-// Whether a number is from the least to the most. A function of its own: written into a closure, `contains` is not proved.
+// Whether a number is from the least to the most, as the rules say it. Tried in place, `contains` left goals open.
 #[tactic(auto, unfolding(rules::specs::Figures::within))]
 fn within(least: i32, most: i32, z: i32) -> bool
     ensures { result ≡ within least most z }
@@ -73,12 +73,13 @@ fn within(least: i32, most: i32, z: i32) -> bool
     (least..=most).contains(&z)
 }
 
-// A train's figures as a row: the step count, eight starts, eight costs.
+// A train's figures as a row: the step count, eight starts, eight costs, read where they stand in the list.
+// So a method of one step asks for a number below 8.
 #[derive(Clone, Copy, Debug)]
 struct Row<'a>(&'a [i32]);
 
 impl<'a> Row<'a> {
-    // How many steps are used, by the step count, which the clamp leaves for the cast to keep.
+    // How many steps are used, by the step count. The cast keeps what the clamp leaves, 0 to 8.
     fn used(self) -> usize
         ensures { result ≡ min (step_count (figure self.entry.0.now 0)) 8 }
     {
@@ -102,9 +103,9 @@ impl<'a> Row<'a> {
     }
 
     // Whether the step after k others starts after the one before it and costs no less; the first has none before it.
-    fn rises(self, k: usize) -> bool
+    fn climbs(self, k: usize) -> bool
         requires { k < 8 }
-        ensures { result ≡ rises self.entry.0.now k }
+        ensures { result ≡ climbs self.entry.0.now k }
     {
         if k == 0 {
             return true;
@@ -112,7 +113,7 @@ impl<'a> Row<'a> {
         (self.start(k - 1) < self.start(k)) & (self.cost(k - 1) <= self.cost(k))
     }
 
-    // Whether the step after k others keeps the rule: a used one is within bounds and rises, any other is 0.
+    // Whether the step after k others keeps the rule: a used one is within bounds and climbs, any other is 0.
     #[tactic(auto, using(crate::proofs::Ranges::zero_bits))]
     fn is_good_step(self, used: usize, k: usize) -> bool
         requires { k < 8 }
@@ -121,7 +122,7 @@ impl<'a> Row<'a> {
         let start = self.start(k);
         let cost = self.cost(k);
         if k < used {
-            (start <= 1000000) & within(0, 1000000, cost) & self.rises(k)
+            (start <= 1000000) & within(0, 1000000, cost) & self.climbs(k)
         } else {
             (start == 0) & (cost == 0)
         }
@@ -138,7 +139,7 @@ impl<'a> Row<'a> {
     }
 
     // The cost of the last used step whose start is not after the arrival.
-    // A loop, since the library says nothing of what a range turned round yields.
+    // A loop: tried as a chain, `find` over the range turned round, whose proof did not close.
     #[tactic(auto, using(crate::proofs::Rows::row_cost_so_far, crate::proofs::Rows::so_far_more), unfolding(crate::proofs::Rows::so_far))]
     fn cost_at(self, arrival: u32) -> i32
         ensures { result ≡ row_cost self.entry.0.now arrival }

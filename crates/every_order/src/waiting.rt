@@ -6,7 +6,7 @@ use rules::Refusal;
 use std::alloc::{AllocError, Global};
 use std::array;
 
-// Moves one train's departure a second or two, later or earlier.
+// Moves one train's departure a second or two, later or earlier. Each train has one.
 fn damage(section: &Section, departures: &mut [u32], random: &mut Random) {
     let train = random.below(section.trains.len() as u32) as usize;
     let seconds = 1 + random.below(2);

@@ -17,7 +17,7 @@ fn copy_over(bytes: &[u8], out: &mut [u8])
     out[..n].copy_from_slice(&bytes[..n]);
 }
 
-// Writes an answer's value and places, and gives its refusal number.
+// Writes an answer's value and places, and gives its refusal number: each stands alone, as C takes them.
 #[tactic(auto, unfolding(rules::specs::Answers::says))]
 fn tell(answer: Answer, value: &mut i64, first: &mut u32, second: &mut u32) -> u32
     ensures { Tells result value.new first.new second.new (says answer) }

@@ -44,6 +44,7 @@ fn judged(section: Section, departures: &[u32]) -> Result<i64, Reason>
 }
 
 // The value of the recorded departures, in train number order; or the first refusal that applies.
+// Its parameters are those that the README names, one by one.
 pub fn judge(objective: u32, timing: Timing, one: &[i32], two: &[i32], departures: &[u32]) -> Answer
     ensures { says result ≡ judge_answers (asked objective timing one.now two.now) departures.now }
 {

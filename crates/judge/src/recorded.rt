@@ -11,7 +11,7 @@ ghost use Rattle.judge.specs.Recorded.{run, clash, IsFirstConflict, Judged};
 use rules::{Section, Station};
 
 // The k-th train's figures in a list.
-fn figures(objective: u32, list: &[i32], k: usize) -> &[i32]
+fn figures_in(objective: u32, list: &[i32], k: usize) -> &[i32]
     requires { k * (aim_of objective).numbers + (aim_of objective).numbers ≤ length list.now }
     ensures { result.now ≡ take (aim_of objective).numbers (drop (k * (aim_of objective).numbers) list.now) }
 {
@@ -97,9 +97,9 @@ impl<'a> Recorded<'a> {
     {
         let objective = self.section.objective;
         if k < self.ones {
-            figures(objective, self.section.one, k)
+            figures_in(objective, self.section.one, k)
         } else {
-            figures(objective, self.section.two, k - self.ones)
+            figures_in(objective, self.section.two, k - self.ones)
         }
     }
 
@@ -114,7 +114,7 @@ impl<'a> Recorded<'a> {
         costs::cost(self.section.objective, self.figures(k), arrival as u32)
     }
 
-    // What the schedule is worth: its trains' costs, joined from the first train's on.
+    // What the schedule is worth: its trains' costs, joined from the first train's on. A loop, since a fold would hide that every sum so far is small.
     #[tactic(auto, using(crate::proofs::Totals::starts, crate::proofs::Totals::ends))]
     pub fn total(&self) -> i64
         requires { Judged (told self.now.section) self.now.departures.now }

@@ -10,20 +10,21 @@ use Rattle.rules.specs.Refusals.{refusals}
 use Rattle.best.proofs.Accepted.{Accepted, accepted_places}
 use Rattle.refusals.specs.Trains.{trains_in}
 use Rattle.planner.specs.declared.clock.Terms.{Terms}
+use Rattle.planner.specs.declared.rests.Rising.{Rising}
 use Rattle.planner.specs.Order.{Placed, InOrder}
 use Rattle.planner.specs.Day.{terms_of, Square, Tables}
 use Rattle.planner.specs.Planning.{Planning}
 use Rattle.planner.proofs.Entries.{count_few}
 
 -- a table of which every cell is the same
-square : (n : ℕ) (cell : List ℤ) → Square n (replicate n (replicate n cell))
+square : {Cell : Type 0} (n : ℕ) (cell : Cell) → Square n (replicate n (replicate n cell))
 square n cell =
     record {
       rows = length-replicate n (replicate n cell);
       cells = λ k h. ap length (get_or-replicate n k (replicate n cell) [] h) ∙ length-replicate n cell;
     }
 
-pub nothing_filled : (S : Section) (cell cell' : List ℤ) → Tables S (replicate 49 (replicate 49 cell)) (replicate 13 (replicate 13 cell')) 0
+pub nothing_filled : (S : Section) (cell : Rising) (cell' : List (List ℤ)) → Tables S (replicate 49 (replicate 49 cell)) (replicate 13 (replicate 13 cell')) 0
 nothing_filled S cell cell' = record { square = square 49 cell; square' = square 13 cell'; right = λ n m h l k. absurd (omega arith) }
 
 module _ (objective : ℕ) (t : Timing) (list list' : List ℤ) {numbers : ℕ} (e : numbers ≡ (aim_of objective).numbers) where

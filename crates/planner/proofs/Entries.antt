@@ -1,5 +1,5 @@
 -- Where the tables hold the best of every smaller rest, what the code reads and chooses is the best of the rest.
-use Rattle.std.proofs.Common.{Bool, true, false, cond, List, ◌++◌, map, ◌≡◌, refl, sym, ◌∙◌, ap, ap₂, ℕ, ◌+◌, ◌*◌, ◌≤◌, ◌<◌, arith, T, ℤ, pos, ◌+ℤ◌, ◌*ℤ◌, length, length-append, Some}
+use Rattle.std.proofs.Common.{Bool, true, false, cond, List, ◌++◌, map, ◌≡◌, refl, sym, ◌∙◌, ap, ap₂, ℕ, ◌+◌, ◌*◌, ◌≤◌, ◌<◌, arith, T, ℤ, pos, ◌+ℤ◌, ◌*ℤ◌, length, length-append, Some, is_some}
 use mathlib.Core.Logic.{by_cases}
 use native.Mathlib.Decide.{dec_le}
 use lib.IntN.{zero-*ℤ}
@@ -17,7 +17,7 @@ use Rattle.refusals.proofs.Table.{most_bound}
 use Rattle.planner.specs.declared.clock.Clock.{Clock}
 use Rattle.planner.specs.declared.clock.Departure.{Departure}
 use Rattle.planner.specs.Clock.{by_station, departs, cell_clock, Near, alone}
-use Rattle.planner.specs.Rests.{Table, entry, side, day, looked_after, looked_up, Held, through, Sends, best_by, Chooses}
+use Rattle.planner.specs.Rests.{Counts, Rows, best_at, rise_at, row_at, day, looked_after, looked_up, Held, through, Sends, best_by, Chooses}
 use Rattle.planner.specs.Cells.{rises, gone_of}
 use Rattle.planner.specs.Day.{terms_of, left, figures_left, next_of, sends, earliest_after, earliest, rest_from, rest, comes_to, at, gone, Running, Right, Tables}
 use Rattle.planner.proofs.Left.{left_none, left_count, left_good}
@@ -38,9 +38,9 @@ module _ (S : Section) where
       ap₂ (λ xs ys. rises (aim S) (map (λ x. x.figures) xs ++ map (λ y. y.figures) ys))
       (ap (left S one) e ∙ left_none S one) (ap (left S two) f ∙ left_none S two)
 
-  module _ (counts changes : Table) (c : Clock) (R : Running S c) {last : Departure} (begun : c.last ≡ Some last) (cell : Right S counts changes c.ones c.twos) where
+  module _ (counts : Counts) (changes : Rows) (c : Clock) (R : Running S c) {last : Departure} (begun : c.last ≡ Some last) (cell : Right S counts changes c.ones c.twos) where
     -- by the changes of station
-    by_changes : (aim S).listed ≡ true → entry changes c.ones c.twos (2 * c.changes + side last.station) ≡ rest S c
+    by_changes : (aim S).listed ≡ true → row_at changes c.ones c.twos c.changes last.station ≡ rest S c
     by_changes listed =
         let (few, at_second) = R.told listed last begun in
         cell.changed listed c.changes few last.station
@@ -49,7 +49,7 @@ module _ (S : Section) where
 
     -- from second 0, and what the departure adds
     by_counts : (aim S).listed ≡ false
-        → entry counts c.ones c.twos (side last.station) +ℤ entry counts c.ones c.twos 2 *ℤ pos last.second ≡ rest S c
+        → best_at counts c.ones c.twos last.station +ℤ rise_at counts c.ones c.twos *ℤ pos last.second ≡ rest S c
     unfolding aim cell_clock
     by_counts free =
         ap₂ (λ v r. v +ℤ r *ℤ pos last.second) (cell.counted free last.station) (cell.risen free)
@@ -67,8 +67,8 @@ module _ (S : Section) where
     looked_is = ap (λ o. looked_after S.objective o c counts changes) begun ∙ by_listed (aim S).listed refl
       where
         by_listed : (l : Bool) → (aim S).listed ≡ l
-            → cond l (entry changes c.ones c.twos (2 * c.changes + side last.station))
-            (entry counts c.ones c.twos (side last.station) +ℤ entry counts c.ones c.twos 2 *ℤ pos last.second) ≡ rest S c
+            → cond l (row_at changes c.ones c.twos c.changes last.station)
+            (best_at counts c.ones c.twos last.station +ℤ rise_at counts c.ones c.twos *ℤ pos last.second) ≡ rest S c
         by_listed true e = by_changes e
         by_listed false e = by_counts e
 
@@ -109,11 +109,12 @@ module _ (S : Section) (A : Accepted S) where
     left_small =
         rest_small S A.timed A.good (c.ones + c.twos) c R.ones_few R.twos_few refl (omega (arith, R.soon, gone_few))
 
-  module _ (counts changes : Table) (c : Clock) (R : Running S c) {last : Departure} (begun : c.last ≡ Some last) (cell : Right S counts changes c.ones c.twos) where
+  module _ (counts : Counts) (changes : Rows) (c : Clock) (R : Running S c) {last : Departure} (begun : c.last ≡ Some last) (cell : Right S counts changes c.ones c.twos) where
     pub held : Held S.objective c counts changes
     unfolding aim
     held =
         record {
+          begun = ap is_some begun;
           ones_few = omega (arith, R.ones_few, count_few one);
           twos_few = omega (arith, R.twos_few, count_few two);
           rows = λ listed.
@@ -125,7 +126,7 @@ module _ (S : Section) (A : Accepted S) where
         }
 
   -- a station's next train from a clock, where the tables hold the best of what is left then
-  module _ (counts changes : Table) (c : Clock) (R : Running S c) (s : Station) (some : 0 < by_station s c.ones c.twos)
+  module _ (counts : Counts) (changes : Rows) (c : Clock) (R : Running S c) (s : Station) (some : 0 < by_station s c.ones c.twos)
       (cell : Right S counts changes (sends S c s).ones (sends S c s).twos) where
     R' : Running S (sends S c s)
     R' = next_running S A.timed c R s some (next_of S c s).figures
@@ -156,7 +157,7 @@ module _ (S : Section) (A : Accepted S) where
         }
 
   -- the choice between the stations' next trains, from tables that are right up to the clock's own place
-  module _ {counts changes : Table} {place : ℕ} (tables : Tables S counts changes place) (c : Clock) (R : Running S c) (before : c.ones * 49 + c.twos ≤ place) where
+  module _ {counts : Counts} {changes : Rows} {place : ℕ} (tables : Tables S counts changes place) (c : Clock) (R : Running S c) (before : c.ones * 49 + c.twos ≤ place) where
     next_right : (s : Station) → 0 < by_station s c.ones c.twos → Right S counts changes (sends S c s).ones (sends S c s).twos
     unfolding alone
     next_right one some = tables.right _ _ (omega (arith, R.ones_few)) (omega (arith, R.twos_few)) (omega arith)

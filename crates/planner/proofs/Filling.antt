@@ -14,10 +14,11 @@ use Rattle.rules.proofs.Line.{gap_most}
 use Rattle.best.proofs.Accepted.{Accepted}
 use Rattle.costs.proofs.Bounds.{mag_within}
 use Rattle.planner.specs.declared.clock.Terms.{Terms}
+use Rattle.planner.specs.declared.rests.Rising.{Rising}
 use Rattle.planner.specs.Clock.{second_of, cell_clock}
 use Rattle.planner.specs.Trains.{next_figures}
-use Rattle.planner.specs.Rests.{Table, entry, side, best_by, Chooses}
-use Rattle.planner.specs.Cells.{slope, Slopes, rises, rate, Rates, Pairs, gone_of, seconds, Changes}
+use Rattle.planner.specs.Rests.{Counts, Rows, counted, rise_at, side, best_by, Chooses}
+use Rattle.planner.specs.Cells.{slope, Slopes, rises, rate, Rates, Pair, Pairs, gone_of, seconds, Changes}
 use Rattle.planner.specs.Day.{terms_of, left, turn, figures_left, earliest, rest, at, Running, Right, Tables}
 use Rattle.planner.specs.Planning.{asked_by, Planning}
 use Rattle.planner.proofs.Placing.{ones_are, twos_are, twos_most, first_next, second_next}
@@ -34,7 +35,7 @@ seconds_most t good k n h =
 within_fits : (z : ℤ) → T (within (pos 0) (pos 1000000) z) → SFits w64 z
 within_fits z h = record { sfits = omega (arith, mag_within 1000000 z h) }
 
-module _ (S : Section) (A : Accepted S) {counts changes : Table} (n m : ℕ) (tables : Tables S counts changes (n * 49 + m))
+module _ (S : Section) (A : Accepted S) {counts : Counts} {changes : Rows} (n m : ℕ) (tables : Tables S counts changes (n * 49 + m))
     (n_few : n ≤ count_at S one) (m_few : m ≤ count_at S two) (x y : List ℤ)
     (first : 0 < n → x ≡ (turn S one n).figures) (second : 0 < m → y ≡ (turn S two m).figures) where
   -- a clock where so many trains are left
@@ -62,7 +63,7 @@ module _ (S : Section) (A : Accepted S) {counts changes : Table} (n m : ℕ) (ta
     cell_is = best_is S A tables _ R (omega arith) first second
 
   -- with this cell right, and those before it still, the tables are right one place further
-  further : {counts' changes' : Table} → Right S counts' changes' n m
+  further : {counts' : Counts} {changes' : Rows} → Right S counts' changes' n m
       → ((n' m' : ℕ) → ¬ ((n' ≡ n) × (m' ≡ m)) → Right S counts changes n' m' → Right S counts' changes' n' m')
       → (n' m' : ℕ) → n' ≤ count_at S one → m' ≤ count_at S two → n' * 49 + m' < n * 49 + m + 1 → Right S counts' changes' n' m'
   further here earlier n' m' h l k =
@@ -82,12 +83,12 @@ module _ (S : Section) (A : Accepted S) {counts changes : Table} (n m : ℕ) (ta
     count_chooses s = cell_chooses s 0 0 (count_running s)
 
     -- one train's slope joined to the rise of those left when it has left
-    joined_first : 0 < n → (aim S).joined (slope (aim S) x) (entry counts (n - 1) m 2) ≡ rises (aim S) (figures_left S n m)
+    joined_first : 0 < n → (aim S).joined (slope (aim S) x) (rise_at counts (n - 1) m) ≡ rises (aim S) (figures_left S n m)
     joined_first some =
         ap₂ (λ z r. (aim S).joined (slope (aim S) z) r) (first some) ((tables.right (n - 1) m (omega arith) m_few (omega arith)).risen free)
         ∙ ap (λ xs. rises (aim S) (map (λ z. z.figures) xs ++ map (λ z. z.figures) (left S two m))) (sym (left_next S one n some n_few))
 
-    joined_second : n ≡ 0 → 0 < m → (aim S).joined (slope (aim S) y) (entry counts n (m - 1) 2) ≡ rises (aim S) (figures_left S n m)
+    joined_second : n ≡ 0 → 0 < m → (aim S).joined (slope (aim S) y) (rise_at counts n (m - 1)) ≡ rises (aim S) (figures_left S n m)
     joined_second e some =
         let none : left S one n ≡ [] = ap (left S one) e ∙ left_none S one in
         ap₂ (λ z r. (aim S).joined (slope (aim S) z) r) (second some) ((tables.right n (m - 1) n_few (omega arith) (omega arith)).risen free)
@@ -121,28 +122,34 @@ module _ (S : Section) (A : Accepted S) {counts changes : Table} (n m : ℕ) (ta
         }
 
     -- the cell as the code makes it, stored
-    module _ (cell : List ℤ) (pairs : Pairs 1 (λ k s. best_by (terms_of S) (at s 0 n m) x y counts changes) cell)
-        (rated : get_or cell 2 (pos 0) ≡ rate S.objective x y n m counts) where
+    module _ (cell : Rising) (pair : Pair (λ s. best_by (terms_of S) (at s 0 n m) x y counts changes) cell.best)
+        (rated : cell.rise ≡ rate S.objective x y n m counts) where
       n_in : n < 49
       n_in = omega (arith, count_few S A one)
 
       m_in : m < 49
       m_in = omega (arith, count_few S A two)
 
+      same : counted (stored counts n m cell) n m ≡ cell
+      same = entry_same counts tables.square n m n_in m_in cell _
+
       here : Right S (stored counts n m cell) changes n m
-      unfolding Pairs
+      unfolding Pair
       here =
           record {
-            counted = λ _ s. entry_same counts tables.square n m n_in m_in cell (side s) ∙ ap (λ k. get_or cell k (pos 0)) (omega arith) ∙ pairs 0 (omega arith) s ∙ cell_is s 0 0 (count_running s);
-            risen = λ _. entry_same counts tables.square n m n_in m_in cell 2 ∙ rated ∙ rate_is;
+            counted = λ _ s. ap (λ v. get_or v.best (side s) (pos 0)) same ∙ pair s ∙ cell_is s 0 0 (count_running s);
+            risen = λ _. ap (λ v. v.rise) same ∙ rated ∙ rate_is;
             changed = λ l. absurd (true≢false (sym l ∙ free));
           }
+
+      others : (n' m' : ℕ) → ¬ ((n' ≡ n) × (m' ≡ m)) → counted (stored counts n m cell) n' m' ≡ counted counts n' m'
+      others n' m' = entry_other counts tables.square n m n_in m_in cell _ n' m'
 
       earlier : (n' m' : ℕ) → ¬ ((n' ≡ n) × (m' ≡ m)) → Right S counts changes n' m' → Right S (stored counts n m cell) changes n' m'
       earlier n' m' other r =
           record {
-            counted = λ f s. entry_other counts tables.square n m n_in m_in cell n' m' (side s) other ∙ r.counted f s;
-            risen = λ f. entry_other counts tables.square n m n_in m_in cell n' m' 2 other ∙ r.risen f;
+            counted = λ f s. ap (λ v. get_or v.best (side s) (pos 0)) (others n' m' other) ∙ r.counted f s;
+            risen = λ f. ap (λ v. v.rise) (others n' m' other) ∙ r.risen f;
             changed = r.changed;
           }
 
@@ -172,7 +179,7 @@ module _ (S : Section) (A : Accepted S) {counts changes : Table} (n m : ℕ) (ta
           chooses = λ k h s. cell_chooses s _ k (change_running s k h);
         }
 
-    module _ (cell : List ℤ) (pairs : Pairs gone (λ k s. best_by (terms_of S) (cell_clock s (seconds S.timing k gone) k n m) x y counts changes) cell) where
+    module _ (cell : List (List ℤ)) (pairs : Pairs gone (λ k s. best_by (terms_of S) (cell_clock s (seconds S.timing k gone) k n m) x y counts changes) cell) where
       n_row : n < 13
       n_row = omega (arith, rows_few S A one listed)
 
@@ -180,13 +187,13 @@ module _ (S : Section) (A : Accepted S) {counts changes : Table} (n m : ℕ) (ta
       m_row = omega (arith, rows_few S A two listed)
 
       here_changed : Right S counts (stored changes n m cell) n m
-      unfolding Pairs
+      unfolding Pairs Pair
       here_changed =
           record {
             counted = λ f. absurd (true≢false (sym listed ∙ f));
             risen = λ f. absurd (true≢false (sym listed ∙ f));
             changed = λ _ k h s.
-                entry_same changes tables.square' n m n_row m_row cell (2 * k + side s) ∙ pairs k h s ∙ cell_is s _ k (change_running s k h);
+                ap (λ v. get_or (get_or v k []) (side s) (pos 0)) (entry_same changes tables.square' n m n_row m_row cell _) ∙ pairs k h s ∙ cell_is s _ k (change_running s k h);
           }
 
       earlier_changed : (n' m' : ℕ) → ¬ ((n' ≡ n) × (m' ≡ m)) → Right S counts changes n' m' → Right S counts (stored changes n m cell) n' m'
@@ -195,7 +202,7 @@ module _ (S : Section) (A : Accepted S) {counts changes : Table} (n m : ℕ) (ta
             counted = r.counted;
             risen = r.risen;
             changed = λ l k h s.
-                entry_other changes tables.square' n m n_row m_row cell n' m' (2 * k + side s) other ∙ r.changed l k h s;
+                ap (λ v. get_or (get_or v k []) (side s) (pos 0)) (entry_other changes tables.square' n m n_row m_row cell _ n' m' other) ∙ r.changed l k h s;
           }
 
       pub changes_filled : Tables S counts (stored changes n m cell) (n * 49 + m + 1)
@@ -207,22 +214,22 @@ module _ (S : Section) (A : Accepted S) {counts changes : Table} (n m : ℕ) (ta
           }
 
 -- of a cell of either table: what the function that makes it asks, where it stands, and what the tables are once it is stored
-pub record ChangeCell (w : Terms) (list list' : List ℤ) (counts changes : Table) (n m : ℕ) (x y : List ℤ) : Type 0 where
+pub record ChangeCell (w : Terms) (list list' : List ℤ) (counts : Counts) (changes : Rows) (n m : ℕ) (x y : List ℤ) : Type 0 where
   pub asks : Changes w x y n m counts changes
   pub place : (n < 13) × (m < 13)
-  pub stored : (cell : List ℤ)
+  pub stored : (cell : List (List ℤ))
       → Pairs (gone_of w n m) (λ k s. best_by w (cell_clock s (seconds w.timing k (gone_of w n m)) k n m) x y counts changes) cell
       → Tables (asked_by w list list') counts (stored changes n m cell) (n * 49 + m + 1)
 
-pub record CountCell (w : Terms) (list list' : List ℤ) (counts changes : Table) (n m : ℕ) (x y : List ℤ) : Type 0 where
+pub record CountCell (w : Terms) (list list' : List ℤ) (counts : Counts) (changes : Rows) (n m : ℕ) (x y : List ℤ) : Type 0 where
   pub asks : ((s : Station) → Chooses w (at s 0 n m) x y counts changes) × Rates w.objective x y n m counts
   pub place : (n < 49) × (m < 49)
-  pub stored : (cell : List ℤ)
-      → Pairs 1 (λ k s. best_by w (at s 0 n m) x y counts changes) cell × (get_or cell 2 (pos 0) ≡ rate w.objective x y n m counts)
+  pub stored : (cell : Rising)
+      → Pair (λ s. best_by w (at s 0 n m) x y counts changes) cell.best × (cell.rise ≡ rate w.objective x y n m counts)
       → Tables (asked_by w list list') (stored counts n m cell) changes (n * 49 + m + 1)
 
 -- the same by a call's terms, with the figures that the code has taken
-module _ (w : Terms) (list list' : List ℤ) (places places' : List ℕ) (P : Planning w list list' places places') {counts changes : Table} (n m : ℕ)
+module _ (w : Terms) (list list' : List ℤ) (places places' : List ℕ) (P : Planning w list list' places places') {counts : Counts} {changes : Rows} (n m : ℕ)
     (few : (n ≤ w.ones) × (m ≤ w.twos)) (tables : Tables (asked_by w list list') counts changes (n * 49 + m)) {x y : List ℤ}
     (x_next : x ≡ next_figures w.objective list places w.ones n) (y_next : y ≡ next_figures w.objective list' places' w.twos m) where
   abbrev S : Section
@@ -249,7 +256,7 @@ module _ (w : Terms) (list list' : List ℤ) (places places' : List ℕ) (P : Pl
     unfolding aim
     change_asks = rw P.terms (change_changes S P.accepted n m tables ones_few twos_few x y first second listed)
 
-    change_stored : (cell : List ℤ)
+    change_stored : (cell : List (List ℤ))
         → Pairs (gone_of w n m) (λ k s. best_by w (cell_clock s (seconds w.timing k (gone_of w n m)) k n m) x y counts changes) cell
         → Tables S counts (stored changes n m cell) (n * 49 + m + 1)
     unfolding aim
@@ -271,19 +278,19 @@ module _ (w : Terms) (list list' : List ℤ) (places places' : List ℕ) (P : Pl
       count_rates S P.accepted n m tables ones_few twos_few x y first second free,
     )
 
-    count_stored : (cell : List ℤ)
-        → Pairs 1 (λ k s. best_by w (at s 0 n m) x y counts changes) cell × (get_or cell 2 (pos 0) ≡ rate w.objective x y n m counts)
+    count_stored : (cell : Rising)
+        → Pair (λ s. best_by w (at s 0 n m) x y counts changes) cell.best × (cell.rise ≡ rate w.objective x y n m counts)
         → Tables S (stored counts n m cell) changes (n * 49 + m + 1)
     unfolding aim
     count_stored cell h =
         counts_filled S P.accepted n m tables ones_few twos_few x y first second free cell
-        (subst (λ v. Pairs 1 (λ k s. best_by v (at s 0 n m) x y counts changes) cell) P.terms h.0) h.1
+        (subst (λ v. Pair (λ s. best_by v (at s 0 n m) x y counts changes) cell.best) P.terms h.0) h.1
 
     pub count_cell : CountCell w list list' counts changes n m x y
     count_cell = record { asks = count_asks; place = count_place; stored = count_stored }
 
 -- a row that is right with its last cell is right altogether
-pub row_filled : (w : Terms) (list list' : List ℤ) (places places' : List ℕ) → Planning w list list' places places' → {counts changes : Table} (n k : ℕ) → w.twos ≤ k
+pub row_filled : (w : Terms) (list list' : List ℤ) (places places' : List ℕ) → Planning w list list' places places' → {counts : Counts} {changes : Rows} (n k : ℕ) → w.twos ≤ k
     → Tables (asked_by w list list') counts changes (n * 49 + k + 1) → Tables (asked_by w list list') counts changes ((n + 1) * 49)
 row_filled w list list' places places' P n k last tables =
     record {

@@ -1,5 +1,5 @@
 -- From clock to clock: the value so far stays small, what the walk's calls require holds, and they give the next clock.
-use Rattle.std.proofs.Common.{Bool, cond, List, ◌≡◌, refl, sym, ◌∙◌, ap, subst, ℕ, ◌+◌, ◌*◌, ◌≤◌, ◌<◌, arith, ℤ, w64, SFits, Option, None, Some}
+use Rattle.std.proofs.Common.{Bool, cond, List, ◌≡◌, refl, sym, ◌∙◌, ap, subst, ◌+◌, ◌*◌, ◌≤◌, ◌<◌, arith, ℤ, w64, SFits, Option, None, Some}
 use mathlib.Core.Logic.{by_cases}
 use native.Mathlib.Decide.{dec_le}
 use lib.Signed.{mag, le_z}
@@ -13,12 +13,11 @@ use Rattle.planner.specs.declared.clock.Clock.{Clock}
 use Rattle.planner.specs.declared.clock.Departure.{Departure}
 use Rattle.planner.specs.declared.day.Day.{Day}
 use Rattle.planner.specs.Clock.{by_station, Near, departs, joined_after, start, alone, next}
-use Rattle.planner.specs.Trains.{next_figures}
-use Rattle.planner.specs.Rests.{Table, day, looked_up, Held, best_by, Chooses}
+use Rattle.planner.specs.Rests.{Counts, Rows, day, looked_up, Held, best_by, Chooses}
 use Rattle.planner.specs.Day.{terms_of, next_of, sends, goes_on, rest, comes_to, gone, Running, Right, Tables}
 use Rattle.planner.specs.Cells.{gone_of}
 use Rattle.planner.specs.Walk.{Counted, goes}
-use Rattle.planner.specs.Filled.{section_of}
+use Rattle.planner.specs.Filled.{section_of, next_at}
 use Rattle.planner.proofs.Sending.{day_none, day_some}
 use Rattle.planner.proofs.Small.{cost_small}
 use Rattle.planner.proofs.Underway.{gone_more, on_running}
@@ -79,19 +78,13 @@ module _ (d : Day) where
         told = λ _ _ e. absurd (none-some _ e);
       }
 
-  -- the figures that the code takes for a station's next train where so many are left
-  abbrev taken : Station → ℕ → List ℤ
-  taken s n =
-      next_figures d.terms.objective (by_station s d.one.list.now d.two.list.now)
-      (by_station s d.one.places d.two.places) (by_station s d.terms.ones d.terms.twos) n
-
   module _ (c : Clock) (R : Running S c) where
-    next_taken : (s : Station) → 0 < by_station s c.ones c.twos → taken s (by_station s c.ones c.twos) ≡ (next_of S c s).figures
+    next_taken : (s : Station) → 0 < by_station s c.ones c.twos → next_at d s (by_station s c.ones c.twos) ≡ (next_of S c s).figures
     next_taken one some = first_next _ _ _ _ _ d.planned c.ones (omega (arith, R.ones_few, ones_are _ _ _ _ _ d.planned)) some
     next_taken two some = second_next _ _ _ _ _ d.planned c.twos (omega (arith, R.twos_few, twos_are _ _ _ _ _ d.planned)) some
 
     -- that train leaves
-    module _ (s : Station) (some : 0 < by_station s c.ones c.twos) {x : List ℤ} (x_next : x ≡ taken s (by_station s c.ones c.twos)) where
+    module _ (s : Station) (some : 0 < by_station s c.ones c.twos) {x : List ℤ} (x_next : x ≡ next_at d s (by_station s c.ones c.twos)) where
       pub next_goes : next d.terms c s x ≡ goes_on S c s
       unfolding next alone terms_of
       next_goes = rw (x_next ∙ next_taken s some)
@@ -107,12 +100,12 @@ module _ (d : Day) where
     next_within two = omega (arith, R.twos_few, twos_are _ _ _ _ _ d.planned)
 
   -- the tables hold the best of every rest
-  module _ {counts changes : Table} (tables : Tables S counts changes ((d.terms.ones + 1) * 49)) where
+  module _ {counts : Counts} {changes : Rows} (tables : Tables S counts changes ((d.terms.ones + 1) * 49)) where
     within : (c : Clock) → Running S c → c.ones * 49 + c.twos < (d.terms.ones + 1) * 49
     within c R = omega (arith, R.ones_few, R.twos_few, count_few S d.planned.accepted two, ones_are _ _ _ _ _ d.planned)
 
     -- the choice at the start
-    module _ {x y : List ℤ} (x_next : x ≡ taken one d.terms.ones) (y_next : y ≡ taken two d.terms.twos) where
+    module _ {x y : List ℤ} (x_next : x ≡ next_at d one d.terms.ones) (y_next : y ≡ next_at d two d.terms.twos) where
       abbrev c₀ : Clock
       c₀ = start d.terms.ones d.terms.twos
 

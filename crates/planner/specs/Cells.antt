@@ -10,7 +10,7 @@ use Rattle.rules.specs.Line.{good_timing, gap}
 use Rattle.rules.specs.Objectives.{Objective, aim_of}
 use Rattle.planner.specs.declared.clock.Terms.{Terms}
 use Rattle.planner.specs.Clock.{cell_clock}
-use Rattle.planner.specs.Rests.{Table, entry, side, Chooses}
+use Rattle.planner.specs.Rests.{Counts, Rows, rise_at, side, Chooses}
 
 -- what a train costs more for a second later, and what trains together do
 unfoldable pub slope : Objective → List ℤ → ℤ
@@ -23,22 +23,25 @@ rises O (x ∷ xs) = O.joined (slope O x) (rises O xs)
 pub record Slopes (objective : ℕ) (x : List ℤ) : Type 0 where
   pub fits : SFits w64 (slope (aim_of objective) x)
 
-unfoldable pub rate : ℕ → List ℤ → List ℤ → ℕ → ℕ → Table → ℤ
+unfoldable pub rate : ℕ → List ℤ → List ℤ → ℕ → ℕ → Counts → ℤ
 rate objective x y ones twos counts =
     cond (eqb ones 0)
-    (cond (eqb twos 0) (pos 0) ((aim_of objective).joined (slope (aim_of objective) y) (entry counts ones (twos - 1) 2)))
-    ((aim_of objective).joined (slope (aim_of objective) x) (entry counts (ones - 1) twos 2))
+    (cond (eqb twos 0) (pos 0) ((aim_of objective).joined (slope (aim_of objective) y) (rise_at counts ones (twos - 1))))
+    ((aim_of objective).joined (slope (aim_of objective) x) (rise_at counts (ones - 1) twos))
 
-pub record Rates (objective : ℕ) (x y : List ℤ) (ones twos : ℕ) (counts : Table) : Type 0 where
+pub record Rates (objective : ℕ) (x y : List ℤ) (ones twos : ℕ) (counts : Counts) : Type 0 where
   pub ones_few : ones ≤ 48
   pub twos_few : twos ≤ 48
   pub first : 0 < ones → Slopes objective x
   pub second : 0 < twos → Slopes objective y
   pub fits : SFits w64 (rate objective x y ones twos counts)
 
--- a cell begins with n pairs: a value after station 1's train, and one after station 2's
-unfoldable pub Pairs : ℕ → (ℕ → Station → ℤ) → List ℤ → Type 0
-Pairs n value cell = (k : ℕ) → k < n → (s : Station) → get_or cell (2 * k + side s) (pos 0) ≡ value k s
+-- a value after station 1's train, and one after station 2's; and a cell that begins with n such pairs
+unfoldable pub Pair : (Station → ℤ) → List ℤ → Type 0
+Pair value pair = (s : Station) → get_or pair (side s) (pos 0) ≡ value s
+
+unfoldable pub Pairs : ℕ → (ℕ → Station → ℤ) → List (List ℤ) → Type 0
+Pairs n value cell = (k : ℕ) → k < n → Pair (value k) (get_or cell k [])
 
 -- how many trains are gone
 unfoldable pub gone_of : Terms → ℕ → ℕ → ℕ
@@ -48,7 +51,7 @@ gone_of w ones twos = w.ones + w.twos - (ones + twos)
 unfoldable pub seconds : Timing → ℕ → ℕ → ℕ
 seconds t changes gone = changes * gap t one two + (gone - 1 - changes) * gap t one one
 
-pub record Changes (w : Terms) (x y : List ℤ) (ones twos : ℕ) (counts changes : Table) : Type 0 where
+pub record Changes (w : Terms) (x y : List ℤ) (ones twos : ℕ) (counts : Counts) (changes : Rows) : Type 0 where
   pub timed : T (good_timing w.timing)
   pub all_few : w.ones + w.twos ≤ 24
   pub few : ones + twos ≤ w.ones + w.twos

@@ -13,7 +13,7 @@ use Rattle.planner.specs.declared.clock.Clock.{Clock}
 use Rattle.planner.specs.declared.clock.Departure.{Departure}
 use Rattle.planner.specs.declared.clock.Terms.{Terms}
 use Rattle.planner.specs.Clock.{by_station, second_of, cell_clock, alone, next}
-use Rattle.planner.specs.Rests.{Table, entry, side, day}
+use Rattle.planner.specs.Rests.{Table, Counts, Rows, best_at, rise_at, row_at, day}
 use Rattle.planner.specs.Cells.{rises, gone_of, seconds}
 
 -- what is planned for, of a section
@@ -84,19 +84,19 @@ pub record Running (S : Section) (c : Clock) : Type 0 where
       → (c.changes < gone S c) × (last.second ≡ seconds S.timing c.changes (gone S c))
 
 -- the cell of the tables where so many trains are left holds the best of the rest
-pub record Right (S : Section) (counts changes : Table) (ones twos : ℕ) : Type 0 where
-  pub counted : (aim S).listed ≡ false → (s : Station) → entry counts ones twos (side s) ≡ rest S (at s 0 ones twos)
-  pub risen : (aim S).listed ≡ false → entry counts ones twos 2 ≡ rises (aim S) (figures_left S ones twos)
+pub record Right (S : Section) (counts : Counts) (changes : Rows) (ones twos : ℕ) : Type 0 where
+  pub counted : (aim S).listed ≡ false → (s : Station) → best_at counts ones twos s ≡ rest S (at s 0 ones twos)
+  pub risen : (aim S).listed ≡ false → rise_at counts ones twos ≡ rises (aim S) (figures_left S ones twos)
   pub changed : (aim S).listed ≡ true → (k : ℕ) → k < gone_of (terms_of S) ones twos → (s : Station)
-      → entry changes ones twos (2 * k + side s) ≡ rest S (at s (seconds S.timing k (gone_of (terms_of S) ones twos)) ones twos)
+      → row_at changes ones twos k s ≡ rest S (at s (seconds S.timing k (gone_of (terms_of S) ones twos)) ones twos)
 
 -- a table of n rows of n cells
-pub record Square (n : ℕ) (table : Table) : Type 0 where
+pub record Square {Cell : Type 0} (n : ℕ) (table : Table Cell) : Type 0 where
   pub rows : length table ≡ n
   pub cells : (ones : ℕ) → ones < n → length (get_or table ones []) ≡ n
 
 -- the tables hold the best of the rest up to a place, where cells are counted row by row
-pub record Tables (S : Section) (counts changes : Table) (place : ℕ) : Type 0 where
+pub record Tables (S : Section) (counts : Counts) (changes : Rows) (place : ℕ) : Type 0 where
   pub square : Square 49 counts
   pub square' : Square 13 changes
   pub right : (ones twos : ℕ) → ones ≤ count_at S one → twos ≤ count_at S two → ones * 49 + twos < place → Right S counts changes ones twos

@@ -1,15 +1,16 @@
 // The cells of the tables: for so many trains left at each station, the best of the rest after a train of either.
-ghost use Rattle.std.specs.Prelude.{[], ◌∷◌, ◌≡◌, T, pos, get_or, ◌<◌, ◌≤◌};
+// `ones` and `twos` stand apart, as the two indices of a table do.
+ghost use Rattle.std.specs.Prelude.{◌≡◌, T, ◌<◌, ◌≤◌};
 ghost use Rattle.rules.specs.declared.Station.{Station as Place};
-ghost use Rattle.rules.specs.declared.Station.TheVariants.{One as one, Two as two};
 ghost use Rattle.rules.specs.Line.{good_timing};
 ghost use Rattle.rules.specs.Objectives.{aim_of};
 ghost use Rattle.planner.specs.Clock.{cell_clock};
-ghost use Rattle.planner.specs.Rests.{best_by, Chooses};
-ghost use Rattle.planner.specs.Cells.{slope, Slopes, rate, Rates, seconds, Pairs, gone_of, Changes};
+ghost use Rattle.planner.specs.Cells.{slope, Slopes, Pair, seconds, Pairs, gone_of};
+ghost use Rattle.planner.specs.Filled.{best_from, CanChoose, rate_from, CanRate, CanChange};
 
 use crate::clock::{Clock, Departure, Terms};
-use crate::rests::{Next, Rests};
+use crate::next::Next;
+use crate::rests::{Rests, Rising};
 use rules::{Station, Timing};
 
 // How much more a train costs for each second that it is later, under objectives 1 and 2.
@@ -24,21 +25,21 @@ fn slope(objective: u32, figures: &[i32]) -> i64
 // How much more the rest costs for each second that all of it is later, under objectives 1 and 2.
 #[tactic(auto, using(costs::proofs::Held::held_fits), unfolding(crate::specs::Cells::rate, crate::specs::Rests::entry))]
 fn rate(objective: u32, next: Next, ones: usize, twos: usize, rests: Rests) -> i64
-    requires { Rates objective next.one.now next.two.now ones twos rests.counts.now }
-    ensures { result ≡ rate objective next.entry.one.now next.entry.two.now ones twos rests.entry.counts.now }
+    requires { CanRate objective next ones twos rests }
+    ensures { result ≡ rate_from objective next.entry ones twos rests.entry }
 {
     if 0 < ones {
         return costs::joined(
             objective,
             slope(objective, next.one),
-            rests.counts[ones - 1][twos][2],
+            rests.counts[ones - 1][twos].rise,
         );
     }
     if 0 < twos {
         return costs::joined(
             objective,
             slope(objective, next.two),
-            rests.counts[ones][twos - 1][2],
+            rests.counts[ones][twos - 1].rise,
         );
     }
     0
@@ -54,8 +55,8 @@ fn pair(
     twos: usize,
     rests: Rests,
 ) -> [i64; 2]
-    requires { (s : Place) → Chooses terms (cell_clock s second changes ones twos) next.one.now next.two.now rests.counts.now rests.changes.now }
-    ensures { result ≡ best_by terms (cell_clock one second changes ones twos) next.entry.one.now next.entry.two.now rests.entry.counts.now rests.entry.changes.now ∷ best_by terms (cell_clock two second changes ones twos) next.entry.one.now next.entry.two.now rests.entry.counts.now rests.entry.changes.now ∷ [] }
+    requires { (s : Place) → CanChoose terms (cell_clock s second changes ones twos) next rests }
+    ensures { Pair (λ s. best_from terms (cell_clock s second changes ones twos) next.entry rests.entry) result }
 {
     [Station::One, Station::Two].map(|station| {
         let clock = Clock::of_cell(Departure { station, second }, changes, ones, twos);
@@ -64,18 +65,16 @@ fn pair(
 }
 
 // A cell of `counts`: the best from second 0 after station 1's train and after station 2's, and how it rises with the second.
-pub fn count_cell(terms: Terms, next: Next, ones: usize, twos: usize, rests: Rests) -> [i64; 3]
-    requires chooses { (s : Place) → Chooses terms (cell_clock s 0 0 ones twos) next.one.now next.two.now rests.counts.now rests.changes.now }
-    requires rates { Rates terms.objective next.one.now next.two.now ones twos rests.counts.now }
-    ensures pairs { Pairs 1 (λ k s. best_by terms (cell_clock s 0 0 ones twos) next.entry.one.now next.entry.two.now rests.entry.counts.now rests.entry.changes.now) result }
-    ensures rises { get_or result 2 (pos 0) ≡ rate terms.objective next.entry.one.now next.entry.two.now ones twos rests.entry.counts.now }
+pub fn count_cell(terms: Terms, next: Next, ones: usize, twos: usize, rests: Rests) -> Rising
+    requires chooses { (s : Place) → CanChoose terms (cell_clock s 0 0 ones twos) next rests }
+    requires rates { CanRate terms.objective next ones twos rests }
+    ensures pair { Pair (λ s. best_from terms (cell_clock s 0 0 ones twos) next.entry rests.entry) result.best }
+    ensures rises { result.rise ≡ rate_from terms.objective next.entry ones twos rests.entry }
 {
-    let [first, second] = pair(terms, next, 0, 0, ones, twos, rests);
-    [
-        first,
-        second,
-        rate(terms.objective, next, ones, twos, rests),
-    ]
+    Rising {
+        best: pair(terms, next, 0, 0, ones, twos, rests),
+        rise: rate(terms.objective, next, ones, twos, rests),
+    }
 }
 
 // The departure of the last of so many trains, with so many changes of station among them.
@@ -91,16 +90,21 @@ fn seconds(timing: Timing, changes: usize, gone: usize) -> u32
 }
 
 // A cell of `changes`: for each number of changes among the trains gone, the best after station 1's train and after station 2's.
-pub fn change_cell(terms: Terms, next: Next, ones: usize, twos: usize, rests: Rests) -> [i64; 48]
-    requires { Changes terms next.one.now next.two.now ones twos rests.counts.now rests.changes.now }
-    ensures { Pairs (gone_of terms ones twos) (λ k s. best_by terms (cell_clock s (seconds terms.timing k (gone_of terms ones twos)) k ones twos) next.entry.one.now next.entry.two.now rests.entry.counts.now rests.entry.changes.now) result }
+pub fn change_cell(
+    terms: Terms,
+    next: Next,
+    ones: usize,
+    twos: usize,
+    rests: Rests,
+) -> [[i64; 2]; 24]
+    requires { CanChange terms next ones twos rests }
+    ensures { Pairs (gone_of terms ones twos) (λ k s. best_from terms (cell_clock s (seconds terms.timing k (gone_of terms ones twos)) k ones twos) next.entry rests.entry) result }
 {
     let gone = terms.ones + terms.twos - (ones + twos);
-    let mut cell = [0i64; 48];
-    for k in 0..gone {
+    let mut cell = [[0; 2]; 24];
+    for (k, values) in cell[..gone].iter_mut().enumerate() {
         let second = seconds(terms.timing, k, gone);
-        let values = pair(terms, next, second, k, ones, twos, rests);
-        cell[2 * k..2 * k + 2].copy_from_slice(&values);
+        *values = pair(terms, next, second, k, ones, twos, rests);
     }
     cell
 }

@@ -14,13 +14,14 @@ ghost use Rattle.planner.specs.Promise.{BestLeft};
 use clock::Terms;
 use day::{Day, Queue};
 use refusals::Reason;
-use rests::{Changes, Counts, Rests};
+use rests::{Changes, Counts, Rests, Rising};
 use rules::{Answer, Section, Timing};
 use walk::Walk;
 
 mod cells;
 mod clock;
 mod day;
+mod next;
 mod order;
 mod rests;
 mod tables;
@@ -33,8 +34,12 @@ fn scheduled(day: Day, departures: &mut [u32]) -> i64
     ensures value { result ≡ best_value (section_of day.entry) }
     ensures leaves { departures.new ≡ plan_of (section_of day.entry) }
 {
-    let mut counts: Counts = [[[0; 3]; 49]; 49];
-    let mut changes: Changes = [[[0; 48]; 13]; 13];
+    let empty = Rising {
+        best: [0; 2],
+        rise: 0,
+    };
+    let mut counts: Counts = [[empty; 49]; 49];
+    let mut changes: Changes = [[[[0; 2]; 24]; 13]; 13];
     tables::fill(&day, &mut counts, &mut changes);
     let rests = Rests {
         counts: &counts,
@@ -63,14 +68,8 @@ fn planned(section: Section, departures: &mut [u32]) -> i64
             ones: section.one.len() / numbers,
             twos: section.two.len() / numbers,
         },
-        one: Queue {
-            list: section.one,
-            places: order::order(objective, section.one),
-        },
-        two: Queue {
-            list: section.two,
-            places: order::order(objective, section.two),
-        },
+        one: Queue::of(objective, section.one),
+        two: Queue::of(objective, section.two),
     };
     scheduled(day, departures)
 }
@@ -86,6 +85,7 @@ fn outcome(section: Section, departures: &mut [u32]) -> Result<i64, Reason>
 }
 
 // Plans a section: sets every departure, in train number order, and answers the best value; or answers the first refusal that applies.
+// Its parameters are those that the README names, one by one.
 #[tactic(auto, using(crate::proofs::Promise::best_left))]
 pub fn plan(
     objective: u32,

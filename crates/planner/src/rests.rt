@@ -3,32 +3,34 @@
 ghost use Rattle.std.specs.Prelude.{◌≡◌};
 ghost use Rattle.std.specs.Int.{w64};
 ghost use Rattle.std.proofs.Common.{SFits};
-ghost use Rattle.planner.specs.Rests.{side, looked_up, Held, day, through, Sends, best_by, Chooses};
+ghost use Rattle.planner.specs.Rests.{side, looked_up, Held, day, through, Sends};
+ghost use Rattle.planner.specs.Filled.{best_from, CanChoose};
 
 use crate::clock::{Clock, Terms};
+use crate::next::Next;
 use rules::Station;
 
-// The figures of the stations' next trains; none where a station has no train left.
+// The best from second 0 after station 1's train and after station 2's, and how it rises with the second.
 #[derive(Clone, Copy, Debug)]
-pub struct Next<'a> {
-    pub one: &'a [i32],
-    pub two: &'a [i32],
+pub struct Rising {
+    pub best: [i64; 2],
+    pub rise: i64,
 }
 
-// A cell for objectives 1 and 2: the best from second 0 after station 1's train and after station 2's, and how it rises with the second.
-pub type Counts = [[[i64; 3]; 49]; 49];
+// For objectives 1 and 2, by trains left at station 1 and at station 2.
+pub type Counts = [[Rising; 49]; 49];
 
-// A cell for objectives 3 and 4: the same two for each number of changes of station so far, which tells the second.
-pub type Changes = [[[i64; 48]; 13]; 13];
+// For objectives 3 and 4: the best after either's train for each number of changes of station so far, which tells the second.
+pub type Changes = [[[[i64; 2]; 24]; 13]; 13];
 
-// The tables of best values, by trains left at station 1 and at station 2.
+// The tables of best values.
 #[derive(Clone, Copy)]
 pub struct Rests<'a> {
     pub counts: &'a Counts,
     pub changes: &'a Changes,
 }
 
-// Where a cell holds the best after station 1's train, and after station 2's.
+// Where a pair holds the best after station 1's train, and after station 2's.
 fn side(station: Station) -> usize
     ensures { result ≡ side station }
 {
@@ -39,21 +41,19 @@ fn side(station: Station) -> usize
 }
 
 impl<'a> Rests<'a> {
-    // The best of the rest from a clock, as the tables have it. Before the first train they have nothing.
+    // The best of the rest once a train has left, as the tables have it.
     #[tactic(auto, unfolding(crate::specs::Rests::entry, crate::specs::Rests::looked_up))]
     fn rest(self, objective: u32, clock: Clock) -> i64
         requires { Held objective clock self.counts.now self.changes.now }
         ensures { result ≡ looked_up objective clock self.entry.counts.now self.entry.changes.now }
     {
-        let Some(last) = clock.last else {
-            return 0;
-        };
+        let last = clock.last.unwrap();
         let at = side(last.station);
         if costs::listed(objective) {
-            return self.changes[clock.ones][clock.twos][2 * clock.changes + at];
+            return self.changes[clock.ones][clock.twos][clock.changes][at];
         }
-        let cell = &self.counts[clock.ones][clock.twos];
-        cell[at] + cell[2] * i64::from(last.second)
+        let Rising { best, rise } = self.counts[clock.ones][clock.twos];
+        best[at] + rise * i64::from(last.second)
     }
 
     // What the day comes to at best from a clock: the value so far with the best of the rest.
@@ -81,8 +81,8 @@ impl<'a> Rests<'a> {
     // The best of the rest from a clock.
     #[tactic(auto, unfolding(crate::specs::Rests::best_by, crate::specs::Rests::lesser))]
     pub fn best(self, terms: Terms, clock: Clock, next: Next) -> i64
-        requires { Chooses terms clock next.one.now next.two.now self.counts.now self.changes.now }
-        ensures { result ≡ best_by terms clock next.entry.one.now next.entry.two.now self.entry.counts.now self.entry.changes.now }
+        requires { CanChoose terms clock next self }
+        ensures { result ≡ best_from terms clock next.entry self.entry }
     {
         match (clock.ones, clock.twos) {
             (0, 0) => 0,

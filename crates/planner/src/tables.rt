@@ -5,10 +5,10 @@ ghost use Rattle.planner.specs.Filled.{section_of};
 
 use crate::cells;
 use crate::day::Day;
-use crate::rests::{Changes, Counts, Next, Rests};
-use rules::Station;
+use crate::rests::{Changes, Counts, Rests};
 
 // Fills the cell where so many trains are left, once all before it are filled.
+// Two tables, lent apart: a struct of both, tried, is not covered by the borrow checker where its literal holds arrays of arrays.
 #[tactic(auto, using(crate::proofs::Placing::ones_most, crate::proofs::Placing::twos_most))]
 fn fill_cell(day: &Day, ones: usize, twos: usize, counts: &mut Counts, changes: &mut Changes)
     requires within { (ones ≤ day.now.terms.ones) × (twos ≤ day.now.terms.twos) }
@@ -16,10 +16,7 @@ fn fill_cell(day: &Day, ones: usize, twos: usize, counts: &mut Counts, changes: 
     ensures { Tables (section_of day.now) counts.new changes.new (ones * 49 + twos + 1) }
 {
     let terms = day.terms;
-    let next = Next {
-        one: day.next_train(Station::One, ones),
-        two: day.next_train(Station::Two, twos),
-    };
+    let next = day.next_trains(ones, twos);
     let rests = Rests { counts, changes };
     if costs::listed(terms.objective) {
         let cell = cells::change_cell(terms, next, ones, twos, rests);

@@ -7,10 +7,11 @@ ghost use Rattle.planner.specs.Filled.{section_of, Filled};
 
 use crate::clock::Clock;
 use crate::day::Day;
-use crate::rests::{Next, Rests};
+use crate::rests::Rests;
 use rules::Station;
 
 // The departures of each station's trains, as they leave.
+// Of fixed memory, with no heap: the times beyond a station's trains are not read.
 #[derive(Clone, Copy, Debug)]
 pub struct Timetable {
     pub one: [u32; 48],
@@ -31,10 +32,7 @@ impl<'a> Walk<'a> {
         ensures { result ≡ rest (section_of self.entry.day.now) (start self.entry.day.now.terms.ones self.entry.day.now.terms.twos) }
     {
         let terms = self.day.terms;
-        let next = Next {
-            one: self.day.next_train(Station::One, terms.ones),
-            two: self.day.next_train(Station::Two, terms.twos),
-        };
+        let next = self.day.next_trains(terms.ones, terms.twos);
         self.rests
             .best(terms, Clock::start(terms.ones, terms.twos), next)
     }

@@ -81,7 +81,7 @@ fn good_timing(timing: Timing) -> bool
     (2..=10000).contains(&timing.running) && (1..timing.running).contains(&timing.headway)
 }
 
-// How many trains a list has.
+// How many trains a list has. It stands with the objective's number, and not in a struct, since a section has one number and two lists.
 #[tactic(auto, using(crate::proofs::Table::numbers_positive), unfolding(crate::specs::Trains::trains_in))]
 fn trains_in(objective: u32, list: &[i32]) -> usize
     ensures { result ≡ trains_in objective list.now }
@@ -149,15 +149,15 @@ fn train_refusal(section: Section, places: usize) -> Result<(), Reason>
     requires { (count_at (told section) one ≤ 48) × (count_at (told section) two ≤ 48) }
     ensures { checked result (pos 0) ≡ verdict (train_refusals (told section.entry) places) (pos 0) }
 {
-    let count = trains_in(section.objective, section.one);
+    let ones = trains_in(section.objective, section.one);
     if let Some(bad) = first_bad(section.objective, section.one) {
         return Err(Reason::BadTrain(bad as u32));
     }
-    let others = trains_in(section.objective, section.two);
+    let twos = trains_in(section.objective, section.two);
     if let Some(bad) = first_bad(section.objective, section.two) {
-        return Err(Reason::BadTrain((count + bad) as u32));
+        return Err(Reason::BadTrain((ones + bad) as u32));
     }
-    if places != count + others {
+    if places != ones + twos {
         return Err(Reason::DepartureCount);
     }
     Ok(())

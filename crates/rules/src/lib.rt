@@ -16,7 +16,7 @@ pub struct Timing {
     pub headway: u32,
 }
 
-// What is asked about: the objective's number, the timing, station 1's list and station 2's.
+// What is asked about: the objective's number, which may be any and is refused where it is unknown, the timing, station 1's list and station 2's.
 #[derive(Clone, Copy, Debug)]
 pub struct Section<'a> {
     pub objective: u32,
@@ -25,7 +25,8 @@ pub struct Section<'a> {
     pub two: &'a [i32],
 }
 
-// A refusal's number, and the two places that it names.
+// A refusal's number, and the two places that it names, 0 where it names none: as the page numbers them, for `refusals::refused`
+// promises of every number. Who finds a refusal says an enum, `refusals::Reason`.
 #[derive(Clone, Copy, Debug, PartialEq, Eq)]
 pub struct Refusal {
     pub number: u32,
@@ -33,7 +34,7 @@ pub struct Refusal {
     pub second: u32,
 }
 
-// The value of a schedule, or why there is none.
+// The value of a schedule, or why there is none. A struct, since the page has an answer that carries its outcome.
 #[derive(Clone, Copy, Debug, PartialEq, Eq)]
 pub struct Answer {
     pub outcome: Result<i64, Refusal>,

@@ -1,5 +1,5 @@
 -- From a text to its file: what is read of the numbers, where there are not too many, is what all of them say.
-use Rattle.std.proofs.Common.{Bool, true, false, cond, Option, Some, None, ℕ, ◌+◌, ◌≤◌, ◌<◌, ◌≡◌, refl, sym, List, [], ◌∷◌, length, ℤ, leb, arith}
+use Rattle.std.proofs.Common.{Bool, true, false, cond, Option, Some, None, ℕ, ◌+◌, ◌≤◌, ◌<◌, ◌≡◌, refl, sym, List, length, ℤ, leb, arith}
 use Rattle.std.specs.Option.{option_and_then}
 use Rattle.std.proofs.lemmas.Bool.{le-leb, lt-leb, leb-false}
 use Rattle.std.proofs.lemmas.Bool.Decides.{nat_tests}

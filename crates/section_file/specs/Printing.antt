@@ -1,6 +1,6 @@
 -- The printed lines as the code goes through them, station by station, and the answers whose departures are all there.
 -- No public promise cites these. proofs/ shows that the lines are those of the section's trains.
-use Rattle.std.specs.Prelude.{List, [], ◌∷◌, ◌++◌, ◌≡◌, ℕ, suc, ◌≤◌, length}
+use Rattle.std.specs.Prelude.{List, [], ◌∷◌, ◌++◌, ◌≡◌, ℕ, suc, ◌≤◌, length, take}
 use Rattle.rules.specs.declared.Station.{Station}
 use Rattle.rules.specs.declared.Timing.{Timing}
 use Rattle.rules.specs.Line.{arrival}
@@ -8,6 +8,10 @@ use Rattle.rules.specs.Trains.{Section, count}
 use Rattle.rules.specs.Answers.{Verdict, value_is, refused}
 use Rattle.text.specs.Written.{decimal}
 use Rattle.section_file.specs.Lines.{refused_word, line, station_number}
+
+-- a page with more bytes on it, as many as it has room for
+abbrev pub with_more : List ℕ → List ℕ → List ℕ
+with_more page bytes = take 8192 (page ++ bytes)
 
 -- the line of the train at a place of its station
 abbrev pub train_at : Timing → Station → ℕ → ℕ → List ℕ

@@ -1,6 +1,7 @@
 // The answer to a file's section, planned or judged, put onto the page.
-ghost use Rattle.std.specs.Prelude.{◌≡◌, ◌++◌, length, map, nat_abs, take};
+ghost use Rattle.std.specs.Prelude.{◌≡◌, length, map, nat_abs};
 ghost use Rattle.section_file.specs.Answer.{plan_lines, judge_lines};
+ghost use Rattle.section_file.specs.Printing.{with_more};
 
 use crate::layout::File;
 use crate::lines;
@@ -10,7 +11,7 @@ use text::page::Page;
 // Nothing is taken from the heap: the departures fit 1,024 places.
 #[tactic(auto, using(refusals::proofs::Table::numbers_positive))]
 pub fn put_plan(page: &mut Page<8192>, file: &File)
-    ensures { page.new ≡ take 8192 (page.old ++ plan_lines file.now.section) }
+    ensures { page.new ≡ with_more page.old (plan_lines file.now.section) }
 {
     let section = &file.section;
     let numbers = costs::numbers(section.objective);
@@ -42,7 +43,7 @@ fn copy(recorded: &[i32], departures: &mut [u32])
 // Nothing is taken from the heap: they fit 512 places.
 #[tactic(auto, using(crate::proofs::Outcomes::judge_complete), unfolding(crate::specs::Lines::judged))]
 pub fn put_judgement(page: &mut Page<8192>, file: &File)
-    ensures { page.new ≡ take 8192 (page.old ++ judge_lines file.now.section file.now.recorded) }
+    ensures { page.new ≡ with_more page.old (judge_lines file.now.section file.now.recorded) }
 {
     let section = &file.section;
     let mut departures = [0; 512];

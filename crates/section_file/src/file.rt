@@ -1,6 +1,7 @@
 // The answer to a text, put onto the page.
-ghost use Rattle.std.specs.Prelude.{Some, ◌≡◌, ◌++◌, take};
+ghost use Rattle.std.specs.Prelude.{Some, ◌≡◌};
 ghost use Rattle.section_file.specs.Answer.{read, answered, answer};
+ghost use Rattle.section_file.specs.Printing.{with_more};
 
 use crate::layout::File;
 use crate::{answers, layout};
@@ -8,7 +9,7 @@ use text::page::Page;
 
 // Puts the answer to a file: a plan of its section, or a judgement of the departures that were recorded.
 fn put_file(page: &mut Page<8192>, file: &File)
-    ensures { page.new ≡ take 8192 (page.old ++ answered (Some file.now)) }
+    ensures { page.new ≡ with_more page.old (answered (Some file.now)) }
 {
     if file.recorded.is_empty() {
         answers::put_plan(page, file);
@@ -32,7 +33,7 @@ fn read<'a>(text: &[u8], values: &'a mut [i32; 1543]) -> Option<File<'a>>
 // Puts the answer to a text. Nothing is taken from the heap: the numbers of every file fit 1,543 places.
 #[tactic(auto, unfolding(crate::specs::Answer::answer, crate::specs::Lines::unreadable_word))]
 pub fn put_text(page: &mut Page<8192>, text: &[u8])
-    ensures { page.new ≡ take 8192 (page.old ++ answer text.now) }
+    ensures { page.new ≡ with_more page.old (answer text.now) }
 {
     let mut values = [0; 1543];
     match read(text, &mut values) {

@@ -56,19 +56,17 @@ pub fn find(values: &[i32]) -> Option<File<'_>>
     let (one, rest) = section(rest, 0, 512, true)?;
     let (two, rest) = section(rest, 0, 512, true)?;
     let (recorded, rest) = section(rest, 0, 512, false)?;
-    let [objective, running, headway] = heading else {
-        return None;
-    };
     if !rest.is_empty() {
         return None;
     }
+    // no number of a heading is below 0
     let timing = Timing {
-        running: running.unsigned_abs(),
-        headway: headway.unsigned_abs(),
+        running: heading[1].unsigned_abs(),
+        headway: heading[2].unsigned_abs(),
     };
     Some(File {
         section: Section {
-            objective: objective.unsigned_abs(),
+            objective: heading[0].unsigned_abs(),
             timing,
             one,
             two,

@@ -1,17 +1,17 @@
 // The lines of an answer, put onto the page.
-ghost use Rattle.std.specs.Prelude.{◌≡◌, ◌++◌, ◌∷◌, ◌≤◌, map, take, length};
+ghost use Rattle.std.specs.Prelude.{◌≡◌, ◌∷◌, ◌≤◌, map, length};
 ghost use Rattle.rules.specs.Trains.{told};
 ghost use Rattle.rules.specs.Answers.{says};
 ghost use Rattle.text.specs.Written.{decimal, signed};
 ghost use Rattle.section_file.specs.Lines.{line, station_number, printed};
-ghost use Rattle.section_file.specs.Printing.{Complete, refusal_line, station_lines};
+ghost use Rattle.section_file.specs.Printing.{with_more, Complete, refusal_line, station_lines};
 
 use rules::{Answer, Refusal, Section, Station, Timing};
 use text::page::Page;
 
 // Puts a word, and then numbers, as a line.
 fn put_line(page: &mut Page<8192>, word: &[u8], fields: &[i64])
-    ensures { page.new ≡ take 8192 (page.old ++ line (word.now ∷ map signed fields.now)) }
+    ensures { page.new ≡ with_more page.old (line (word.now ∷ map signed fields.now)) }
 {
     page.put(word);
     for field in fields {
@@ -37,7 +37,7 @@ fn station_word(station: Station) -> &'static [u8]
 fn put_trains(page: &mut Page<8192>, timing: Timing, station: Station, departures: &[u32])
     requires room { length page.old ≤ 8192 }
     requires few { length departures.now ≤ 96 }
-    ensures { page.new ≡ take 8192 (page.old ++ station_lines timing station 0 departures.now) }
+    ensures { page.new ≡ with_more page.old (station_lines timing station 0 departures.now) }
 {
     for (place, departure) in departures.iter().enumerate() {
         let arrival = line::arrival(timing, station, *departure);
@@ -52,7 +52,7 @@ fn put_trains(page: &mut Page<8192>, timing: Timing, station: Station, departure
 // Puts a refusal as a line.
 #[tactic(auto, unfolding(crate::specs::Lines::refused_word))]
 fn put_refusal(page: &mut Page<8192>, refusal: Refusal)
-    ensures { page.new ≡ take 8192 (page.old ++ refusal_line refusal.number refusal.first refusal.second) }
+    ensures { page.new ≡ with_more page.old (refusal_line refusal.number refusal.first refusal.second) }
 {
     let number = i64::from(refusal.number);
     let first = i64::from(refusal.first);
@@ -70,7 +70,7 @@ pub fn put_answer(
     departures: &[u32],
 )
     requires { Complete (told section.now) (says answer) departures.now }
-    ensures { page.new ≡ take 8192 (page.old ++ printed word.now (told section.now) (says answer) departures.now) }
+    ensures { page.new ≡ with_more page.old (printed word.now (told section.now) (says answer) departures.now) }
 {
     match answer.outcome {
         Ok(value) => {

@@ -9,7 +9,7 @@ returns-in-Some c = bad_one (told c.args.section) c.args.places (pos 0) c.in-Som
 
 pub returns-in-Some-first_bad : goal.returns-in-Some-first_bad
 returns-in-Some-first_bad c =
-    rw c.trains_in-count.ensures
+    rw c.trains_in-ones.ensures
     (bad_two
     (told c.args.section)
     c.args.places

@@ -7,17 +7,17 @@ use Rattle.planner.proofs.tables.fill_cell.Goals.{Then-listed, Else-listed}
 -- once both next trains are known: the cell as the laws have it, where list order is kept
 listed : (c : Then-listed)
     → ChangeCell c.args.day.now.terms c.args.day.now.one.list.now c.args.day.now.two.list.now c.args.counts.now c.args.changes.now c.args.ones c.args.twos
-    c.next_train.result.now c.next_train-2.result.now
+    c.next_trains-next.result.one.now c.next_trains-next.result.two.now
 listed c =
-    change_cell _ _ _ _ _ c.args.day.now.planned c.args.ones c.args.twos c.requires.within c.requires.tables c.next_train.ensures c.next_train-2.ensures
+    change_cell _ _ _ _ _ c.args.day.now.planned c.args.ones c.args.twos c.requires.within c.requires.tables c.next_trains-next.ensures.first c.next_trains-next.ensures.second
     (sym c.listed.ensures ∙ c.if-listed.true)
 
 -- and where it is free
 free : (c : Else-listed)
     → CountCell c.args.day.now.terms c.args.day.now.one.list.now c.args.day.now.two.list.now c.args.counts.now c.args.changes.now c.args.ones c.args.twos
-    c.next_train.result.now c.next_train-2.result.now
+    c.next_trains-next.result.one.now c.next_trains-next.result.two.now
 free c =
-    count_cell _ _ _ _ _ c.args.day.now.planned c.args.ones c.args.twos c.requires.within c.requires.tables c.next_train.ensures c.next_train-2.ensures
+    count_cell _ _ _ _ _ c.args.day.now.planned c.args.ones c.args.twos c.requires.within c.requires.tables c.next_trains-next.ensures.first c.next_trains-next.ensures.second
     (sym c.listed.ensures ∙ c.if-listed.false)
 
 pub change_cell-cell-requires : goal.change_cell-cell-requires
@@ -40,4 +40,4 @@ returns-then-listed c = (listed c.before).stored c.change_cell-cell.result c.cha
 
 pub returns-else-listed : goal.returns-else-listed
 returns-else-listed c =
-    (free c.before).stored c.count_cell-cell.result (c.count_cell-cell.ensures.pairs, c.count_cell-cell.ensures.rises)
+    (free c.before).stored c.count_cell-cell.result (c.count_cell-cell.ensures.pair, c.count_cell-cell.ensures.rises)

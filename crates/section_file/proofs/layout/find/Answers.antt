@@ -1,16 +1,16 @@
 -- A heading has three numbers, and no list more than 512.
-use Rattle.std.proofs.Common.{rules, ◌<◌, length, arith, true, false}
+use Rattle.std.proofs.Common.{true, false, arith}
 use Rattle.section_file.proofs.Sections.{counted}
 use Rattle.section_file.proofs.layout.find.Goals as goal
-use Rattle.section_file.proofs.layout.find.Goals.{in_default-via-then-heading-lt3, in_default-via-else-heading-lt3+else-heading-lt4}
 
-pub returns-in_default : goal.returns-in_default
-returns-in_default c =
-    let three = counted 3 3 false _ c.in_ok-heading.ensures in
-    absurd (elim c.in_default.branch [
-      | in_default-via-then-heading-lt3 w ↦ let few : length c.in_ok-heading.heading.now < 3 = search rules in omega (arith, three.enough)
-      | in_default-via-else-heading-lt3+else-heading-lt4 w ↦ let many : 3 < length c.in_ok-heading.heading.now = search rules in omega (arith, three.few)
-    ])
+pub bounds-heading-1 : goal.bounds-heading-1
+bounds-heading-1 c = omega (arith, (counted 3 3 false _ c.in_ok-heading.ensures).enough)
+
+pub bounds-heading-2 : goal.bounds-heading-2
+bounds-heading-2 c = omega (arith, (counted 3 3 false _ c.in_ok-heading.ensures).enough)
+
+pub bounds-heading-0 : goal.bounds-heading-0
+bounds-heading-0 c = omega (arith, (counted 3 3 false _ c.in_ok-heading.ensures).enough)
 
 pub invariant_of-result : goal.invariant_of-result
 invariant_of-result c =

@@ -4,22 +4,22 @@ use Rattle.rules.specs.Trains.{told, aim}
 use Rattle.judge.proofs.Trains.{figures_one, figures_two, one_within, two_within}
 use Rattle.judge.proofs.recorded.Recorded.figures.Goals as goal
 
-pub figures-requires : goal.figures-requires
+pub figures_in-requires : goal.figures_in-requires
 unfolding aim
-figures-requires c = one_within (told c.args.self.now.section) c.args.k c.args.self.now.by_station c.if-k-self.true
+figures_in-requires c = one_within (told c.args.self.now.section) c.args.k c.args.self.now.by_station c.if-k-self.true
 
-pub figures-requires-else-k-self : goal.figures-requires-else-k-self
+pub figures_in-requires-else-k-self : goal.figures_in-requires-else-k-self
 unfolding aim
-figures-requires-else-k-self c =
+figures_in-requires-else-k-self c =
     two_within (told c.args.self.now.section) c.args.k c.args.self.now.by_station c.if-k-self.false c.requires
 
 pub returns-then-k-self : goal.returns-then-k-self
 unfolding aim
 returns-then-k-self c =
-    c.figures.ensures ∙ figures_one (told c.args.self.now.section) c.args.k c.args.self.now.by_station c.if-k-self.true
+    c.figures_in.ensures ∙ figures_one (told c.args.self.now.section) c.args.k c.args.self.now.by_station c.if-k-self.true
 
 pub returns-else-k-self : goal.returns-else-k-self
 unfolding aim
 returns-else-k-self c =
-    c.figures-else-k-self.ensures ∙
+    c.figures_in-else-k-self.ensures ∙
     figures_two (told c.args.self.now.section) c.args.k c.args.self.now.by_station c.if-k-self.false
