@@ -13,7 +13,7 @@ impl Random {
         }
     }
 
-    // A number from 0 to n - 1. None is above 719, so that the casts of this program keep them.
+    // A number from 0 to n - 1. No number drawn, counted or listed in this program is above 719, so that its casts keep them.
     pub fn below(&mut self, n: u32) -> u32
         requires { 0 < n }
         ensures { result < n }

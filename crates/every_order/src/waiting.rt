@@ -48,6 +48,7 @@ fn tried(
     random: &mut Random,
 ) -> Result<u64, AllocError> {
     let order = section.random_order(alloc, random)?;
+    // six are drawn whatever the trains, so that every section takes as many numbers
     let waits: [u32; 6] = array::from_fn(|_| random.below(4));
     let departures = section.scheduled(alloc, &order, &waits)?;
     let mut moved = departures.clone()?;

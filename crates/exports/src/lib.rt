@@ -1,4 +1,5 @@
-// What a program in C or Rust links, which `exports_c` gives its C names: a section file's text to its answer's, the planner and the judge.
+// What a program in C or Rust links: a section file's text to its answer's, the planner and the judge.
+// `exports_c` gives each its C name with the same clauses: a crate is a library or a static library, and not both.
 #![tactic(auto)]
 
 ghost use Rattle.std.specs.Prelude.{◌≡◌, length, take};

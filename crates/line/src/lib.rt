@@ -7,7 +7,7 @@ ghost use Rattle.rules.specs.Line.{gap as gap_of, arrival as arrival_at, apart a
 
 use rules::{Station, Timing};
 
-// Whether two trains are of one station.
+// Whether two trains are of one station. A function beside `==`, since its promise is one of the line's (`one_same`).
 pub fn same(station: Station, other: Station) -> bool
     ensures { result ≡ same_station station other }
 {

@@ -36,7 +36,7 @@ pub struct Clock {
     pub value: i64,
 }
 
-// A step asks that the clock be `Near` the timing, which a clock does not hold, and that the station have a train left.
+// What sends a train asks that the clock be `Near` the timing, which a clock does not hold, and that the station have a train left.
 impl Clock {
     // Before the first train, with so many left.
     #[tactic(auto, unfolding(crate::specs::Clock::start))]

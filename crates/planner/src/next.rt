@@ -10,7 +10,7 @@ use crate::day::{Day, Queue};
 use rules::Station;
 
 // The figures of the stations' next trains.
-// An empty slice and no `Option` where a station has no train left: it is never asked for one.
+// An empty slice and no `Option` where a station has no train left: its figures are not read then.
 #[derive(Clone, Copy, Debug)]
 pub struct Next<'a> {
     pub one: &'a [i32],
@@ -18,7 +18,7 @@ pub struct Next<'a> {
 }
 
 impl<'a> Queue<'a> {
-    // The figures of the next train where so many of `count` are left; none where none is.
+    // The figures of the next train where so many of `count` are left; none where none is. The count is the terms', not the queue's.
     #[tactic(auto, unfolding(crate::specs::Trains::next_figures))]
     fn next(&self, objective: u32, count: usize, left: usize) -> &'a [i32]
         requires { Queued objective self.now.list.now self.now.places count left }

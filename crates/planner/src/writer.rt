@@ -6,6 +6,7 @@ use crate::day::Day;
 use crate::walk::Timetable;
 
 // Writes one station's departures in list order: the train whose place in the list is places[k] leaves at times[k].
+// Both are a station's, and come from the day and its timetable, so no struct holds the two.
 fn write(departures: &mut [u32], places: &[usize; 48], times: &[u32; 48])
     requires { Covers (length departures.old) places.now }
     ensures { InListOrder (length departures.old) places.now times.now departures.new }

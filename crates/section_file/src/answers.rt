@@ -29,7 +29,7 @@ pub fn put_plan(page: &mut Page<8192>, file: &File)
 }
 
 // Copies recorded departures, of which none is below 0.
-// By place: of an `iter_mut` under `zip` no clause tells what the loop leaves.
+// By place: tried as an `iter_mut` under `zip`, of which no clause tells what the loop leaves.
 fn copy(recorded: &[i32], departures: &mut [u32])
     requires { length departures.old ≡ length recorded.now }
     ensures { departures.new ≡ map nat_abs recorded.now }

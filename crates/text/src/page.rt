@@ -50,7 +50,7 @@ impl<const N: usize> Page<N> {
         self.count += more;
     }
 
-    // Writes a number's digits; the cast keeps one. Not by `Display`: last_digit_by_nines and plus_for_minus edit what is written here.
+    // Writes a number's digits; the cast keeps one. Not by `Display`: last_digit_by_nines edits what is written here, and plus_for_minus in `put_number`.
     #[tactic(auto, using(crate::proofs::Pages::one_digit, crate::proofs::Pages::next_digit))]
     fn put_digits(&mut self, n: u64)
         ensures { self.new ≡ take N (self.old ++ decimal n) }
