@@ -16,7 +16,7 @@ fn put_line(page: &mut Page<8192>, word: &[u8], fields: &[i64])
     page.put(word);
     for field in fields {
         page.put(b" ");
-        page.put_number(*field);
+        page.put(text::write::number(*field).as_bytes());
     }
     page.put(b"\n");
 }

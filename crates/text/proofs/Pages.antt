@@ -1,5 +1,5 @@
 -- A page of which some bytes are written, and the others 0: how it goes on, and what the whole of it is.
-use Rattle.std.proofs.Common.{ℕ, zero, suc, ◌≡◌, refl, [], ◌∷◌, ◌+◌, ◌-◌, ◌/◌, ◌%◌, ◌<◌, ◌≤◌, Fits, w64, append_assoc, List, ◌++◌, min, length, take, drop, replicate, arith, sym, ◌∙◌, ap, length-take, length-take-le, take-append-drop}
+use Rattle.std.proofs.Common.{ℕ, zero, suc, ◌≡◌, refl, [], ◌∷◌, ◌+◌, ◌-◌, ◌/◌, ◌%◌, ◌<◌, ◌≤◌, Fits, w64, append_assoc, List, ◌++◌, min, length, take, drop, replicate, arith, sym, ◌∙◌, ap, length-take-le, take_all, take-append-drop}
 use Rattle.std.proofs.lemmas.Slice.{take-put_mid, drop-put_mid}
 use Rattle.std.proofs.lemmas.List.{drop-drop, drop-replicate, take_min}
 use Rattle.std.proofs.Math.Seq.{take-append-add}
@@ -8,19 +8,22 @@ use Rattle.text.specs.Over.{over}
 use Rattle.text.specs.Written.{decimal}
 use Rattle.text.proofs.Decimal.{decimal_small, decimal_next}
 
-module _ (room count more k : ℕ) (page bytes : List ℕ) (whole : length page ≡ room) (within : count ≤ room) (most : more ≡ min (room - count) (length bytes)) (part : k ≡ count + more - count) where
-  copied : length (take more bytes) ≡ more
-  copied = rw length-take (omega arith)
+module _ (room count more k : ℕ) (page bytes new : List ℕ) (whole : length page ≡ room) (within : count ≤ room) (most : more ≡ min (room - count) (length bytes)) (part : k ≡ count + more - count)
+    (filled : length new ≡ more) (last : ℕ) (all : length (take more bytes) ≤ last) (end : last ≤ more) (done : take last new ≡ take last bytes) where
+  put_there : new ≡ take more bytes
+  put_there =
+      let full : last ≡ more = omega (arith, length-take-le more bytes (omega arith)) in
+      sym (take_all more new (omega (arith, filled))) ∙ rw full at done
 
-  pub blank_after : drop count page ≡ replicate (room - count) 0 → drop (count + more) (put_mid count k page (take more bytes)) ≡ replicate (room - (count + more)) 0
+  pub blank_after : drop count page ≡ replicate (room - count) 0 → drop (count + more) (put_mid count k page new) ≡ replicate (room - (count + more)) 0
   blank_after blank =
       let rest : room - (count + more) ≡ room - count - more = omega arith in
-      rw (drop-put_mid count k page (take more bytes) (count + more) (omega arith) (omega arith) (omega (arith, copied)), ← drop-drop more count page, blank, drop-replicate, rest)
+      rw (drop-put_mid count k page new (count + more) (omega arith) (omega arith) (omega (arith, filled)), ← drop-drop more count page, blank, drop-replicate, rest)
 
-  pub written_on : take (count + more) (put_mid count k page (take more bytes)) ≡ take room (take count page ++ bytes)
+  pub written_on : take (count + more) (put_mid count k page new) ≡ take room (take count page ++ bytes)
   written_on =
       let n : room ≡ length (take count page) + (room - count) = rw (length-take-le count page (omega arith)) (omega arith) in
-      rw (take-put_mid count k page (take more bytes) (count + more) (omega (arith, copied)) (omega arith), most, take_min)
+      rw (take-put_mid count k page new (count + more) (omega (arith, filled)) (omega arith), put_there, most, take_min)
       (sym (ap (λ m. take m (take count page ++ bytes)) n ∙ take-append-add (take count page) bytes (room - count)))
 
 pub whole_page : (room count : ℕ) (page : List ℕ) → length page ≡ room → count ≤ room → drop count page ≡ replicate (room - count) 0 → page ≡ over (take count page) (replicate room 0)

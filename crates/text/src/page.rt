@@ -40,13 +40,17 @@ impl<const N: usize> Page<N> {
     }
 
     // Writes bytes after those written, as many as there is room for.
+    // One by one: `copy_from_slice` makes the library for C need `memmove` from outside, which it did not.
     #[tactic(auto, using(crate::proofs::Pages::blank_after, crate::proofs::Pages::written_on))]
     pub fn put(&mut self, bytes: &[u8])
         ensures { self.new ≡ take N (self.old ++ bytes.now) }
     {
         let more = (N - self.count).min(bytes.len());
         let page = &mut self.bytes[..];
-        page[self.count..self.count + more].copy_from_slice(&bytes[..more]);
+        let room = &mut page[self.count..self.count + more];
+        for (k, byte) in bytes[..more].iter().enumerate() {
+            room[k] = *byte;
+        }
         self.count += more;
     }
 

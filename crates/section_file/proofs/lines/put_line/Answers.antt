@@ -11,4 +11,5 @@ loop-field-preserved c =
     let k = c.loop-field.field-index in
     let fields = c.args.fields.now in
     let field : to_z w64 (of_z w64 (get_or fields k (pos 0))) ≡ get_or fields k (pos 0) = search rules in
-    field_put 8192 c.loop-field.page fields k c.put-in-loop-field.ensures c.put_number.ensures field c.loop-field-test.true ∙ c.loop-field.invariant
+    let number = rw (c.as_bytes.ensures.written, c.number.ensures.written) at c.put-in-loop-field-2.ensures in
+    field_put 8192 c.loop-field.page fields k c.put-in-loop-field.ensures number field c.loop-field-test.true ∙ c.loop-field.invariant
