@@ -1,2 +1,3 @@
--- What the exported promises leave open: nothing.
+-- What the exported promises leave open: nothing; and what a copy leaves.
+pub mod Copying
 pub mod Unique

@@ -11,6 +11,7 @@ ghost use Rattle.exports.specs.Told.{called, Tells};
 use rules::{Answer, Timing};
 
 // Copies bytes over the start of `out`, as many as it holds.
+#[tactic(auto, using(crate::proofs::Copying::copied))]
 fn copy_over(bytes: &[u8], out: &mut [u8])
     ensures { out.new ≡ over (take (length out.old) bytes.now) out.old }
 {
