@@ -7,6 +7,7 @@ use random::Random;
 use std::io;
 
 mod checks;
+mod lists;
 mod objective;
 mod orders;
 mod random;
@@ -23,14 +24,10 @@ mod waiting;
 const SECTIONS: u32 = 300;
 
 // Compares sections of an objective and writes its line.
-fn report(
-    rt: &(impl Print + AllocGlobal),
-    objective: Objective,
-    random: &mut Random,
-) -> io::Result<()> {
+fn report(rt: &impl Print, objective: Objective, random: &mut Random) -> io::Result<()> {
     let mut differences = 0u64;
     for _ in 0..SECTIONS {
-        let more = checks::of_random_section(rt.alloc(), objective, random)?;
+        let more = checks::of_random_section(objective, random);
         differences = differences.saturating_add(more);
     }
     let number = objective as u32;

@@ -1,4 +1,5 @@
 // The rules of a safe schedule, tried on every pair of trains.
+use crate::schedules::Departures;
 use crate::sections::Section;
 use crate::trains::Train;
 
@@ -20,9 +21,9 @@ impl Section {
     }
 
     // The numbers of the first pair of trains that break a rule, where there is one.
-    pub fn conflict(&self, departures: &[u32]) -> Option<(u32, u32)> {
-        for (first, departure) in self.trains.iter().zip(departures) {
-            let second = self.trains.iter().zip(departures).find(|(second, departed)| {
+    pub fn conflict(&self, departures: &Departures) -> Option<(u32, u32)> {
+        for (first, departure) in self.trains().iter().zip(departures) {
+            let second = self.trains().iter().zip(departures).find(|(second, departed)| {
                 first.number < second.number && self.breaks(first, *departure, second, **departed)
             });
             if let Some((second, _)) = second {

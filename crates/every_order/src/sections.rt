@@ -1,67 +1,80 @@
 // Random sections of at most 6 trains, with many ties.
-ghost use Rattle.std.specs.Prelude.{◌<◌, ◌≤◌, vec_len};
+ghost use Rattle.std.specs.Prelude.{◌<◌, ◌≤◌};
 
+use crate::lists::List;
 use crate::objective::Objective;
 use crate::random::Random;
 use crate::trains::{Figures, Train};
 use rules::{Station, Timing};
-use std::alloc::{AllocError, Global};
+use std::array;
 
-// A section, its trains in number order, and both stations' lists as the planner and the judge read them.
+// A section has the first ones of 6 trains that are drawn, in number order, and both stations' lists as the planner and the judge read them.
 #[derive(Drop)]
 pub struct Section {
     pub objective: Objective,
     pub timing: Timing,
-    pub trains: Vec<Train>,
-    pub one: Vec<i32>,
-    pub two: Vec<i32>,
-    ghost at_most_six: { (0 < vec_len trains) × (vec_len trains ≤ 6) },
+    pub drawn: [Train; 6],
+    pub count: usize,
+    pub one: List,
+    pub two: List,
+    ghost at_most_six: { (0 < count) × (count ≤ 6) },
 }
 
-// A station's list.
-fn list(alloc: Global, trains: &[Train], station: Station) -> Result<Vec<i32>, AllocError> {
-    let mut list = Vec::new(alloc);
-    for train in trains.iter().filter(|train| train.station == station) {
-        train.figures.put(&mut list)?;
-    }
-    Ok(list)
-}
-
-impl Section {
-    // A section of 1 to 6 trains, the first of 6 that are drawn. Either station may be empty, and in every second section few figures differ.
-    pub fn draw(
-        alloc: Global,
-        objective: Objective,
-        random: &mut Random,
-    ) -> Result<Section, AllocError> {
-        let running = 2 + random.below(19);
-        let headway = 1 + random.below(running - 1);
-        let count = 1 + random.below(6);
-        let ones = random.below(count + 1);
-        let few = random.below(2) == 0;
-        let mut trains = Vec::new(alloc);
-        for number in 0..6 {
+// Six trains, of which so many leave from station 1. In every second section few figures differ.
+fn draw_trains(objective: Objective, ones: u32, random: &mut Random) -> [Train; 6] {
+    let few = random.below(2) == 0;
+    array::from_fn(
+        |number: usize|
+            requires { number < 6 }
+        {
+            let number = number as u32;
             let station = if number < ones {
                 Station::One
             } else {
                 Station::Two
             };
-            let figures = Figures::draw(alloc, objective, few, random)?;
-            trains.push(Train {
+            let figures = Figures::draw(objective, few, random);
+            Train {
                 number,
                 station,
                 figures,
-            })?;
-        }
-        trains.truncate(count as usize);
-        let one = list(alloc, &trains, Station::One)?;
-        let two = list(alloc, &trains, Station::Two)?;
-        Ok(Section {
+            }
+        },
+    )
+}
+
+// A station's list.
+fn list(trains: &[Train], station: Station) -> List {
+    let mut list = List::new();
+    for train in trains.iter().filter(|train| train.station == station) {
+        train.figures.put(&mut list);
+    }
+    list
+}
+
+impl Section {
+    // A section of 1 to 6 trains. Either station may be empty.
+    pub fn draw(objective: Objective, random: &mut Random) -> Section {
+        let running = 2 + random.below(19);
+        let headway = 1 + random.below(running - 1);
+        let trains = 1 + random.below(6);
+        let ones = random.below(trains + 1);
+        let drawn = draw_trains(objective, ones, random);
+        let count = trains as usize;
+        let one = list(&drawn[..count], Station::One);
+        let two = list(&drawn[..count], Station::Two);
+        Section {
             objective,
             timing: Timing { running, headway },
-            trains,
+            drawn,
+            count,
             one,
             two,
-        })
+        }
+    }
+
+    // The section's trains.
+    pub fn trains(&self) -> &[Train] {
+        &self.drawn[..self.count]
     }
 }
