@@ -1,4 +1,5 @@
 -- Laws behind the judge's code.
+pub mod Late
 pub mod Trains
 pub mod Pairs
 pub mod Refusals
