@@ -61,7 +61,7 @@ all_rise x (suc n) = let others : suc n - 1 ≡ n = omega arith in rw others (cl
 
 -- the rule by the places of the steps, of which n are used
 pub good_row_tests : (x : List ℤ) (n : ℕ) → n ≡ many x
-    → within (pos 1) (pos 8) (figure x 0) && is_zero (figure x 1) && every (good_step x n) (count_from 0 8) ≡ good_row x
+    → (within (pos 1) (pos 8) (figure x 0) && is_zero (figure x 1)) && every (good_step x n) (count_from 0 8) ≡ good_row x
 unfolding good_row
 good_row_tests x n e =
     let whole : many x + (8 - many x) ≡ 8 = omega arith in

@@ -1,9 +1,11 @@
 -- The objectives' table: the row of each number, and what one column says of another.
 use mathlib.Core.Bool.{Bool, true, false, cond}
+use mathlib.Core.List.{List}
 use mathlib.Core.Path.{◌≡◌, refl}
 use Prim.Native.Nat.{ℕ}
 use lib.Dec.{eqb}
-use lib.IntN.{◌+ℤ◌}
+use lib.IntN.{ℤ, ◌+ℤ◌}
+use Rattle.rules.specs.Figures.{good_row}
 use Rattle.rules.specs.Objectives.{Objective, larger, lateness, weighted, by_rows, aim_of}
 
 -- what is said of each row of the table holds of every number's, with the tests for 1 and 2
@@ -26,3 +28,7 @@ numbers_listed = each (λ a b o. o.numbers ≡ cond o.listed 17 1) (λ b. refl) 
 pub most_listed : (n : ℕ) → (aim_of n).most ≡ cond (aim_of n).listed 12 48
 unfolding lateness weighted by_rows
 most_listed = each (λ a b o. o.most ≡ cond o.listed 12 48) (λ b. refl) refl refl refl
+
+pub good_listed : (n : ℕ) (x : List ℤ) → (aim_of n).listed ≡ true → good_row x ≡ (aim_of n).good x
+unfolding lateness weighted by_rows
+good_listed n x = each (λ a b o. o.listed ≡ true → good_row x ≡ o.good x) (λ b e. cc) (λ e. cc) (λ e. refl) (λ e. refl) n

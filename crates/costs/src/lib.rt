@@ -102,15 +102,12 @@ impl<'a> Row<'a> {
         figure(self.0, 9 + k)
     }
 
-    // Whether the step after k others starts after the one before it and costs no less; the first has none before it.
-    fn climbs(self, k: usize) -> bool
-        requires { k < 8 }
+    // Whether the step after k others, given by its start and cost, starts after the one before it and costs no less; the first has none before it.
+    fn climbs(self, k: usize, start: i32, cost: i32) -> bool
+        requires { (k < 8) × (start ≡ figure self.0.now (1 + k)) × (cost ≡ figure self.0.now (9 + k)) }
         ensures { result ≡ climbs self.entry.0.now k }
     {
-        if k == 0 {
-            return true;
-        }
-        (self.start(k - 1) < self.start(k)) & (self.cost(k - 1) <= self.cost(k))
+        k == 0 || (self.start(k - 1) < start && self.cost(k - 1) <= cost)
     }
 
     // Whether the step after k others keeps the rule: a used one is within bounds and climbs, any other is 0.
@@ -122,7 +119,7 @@ impl<'a> Row<'a> {
         let start = self.start(k);
         let cost = self.cost(k);
         if k < used {
-            (start <= 1000000) & within(0, 1000000, cost) & self.climbs(k)
+            start <= 1000000 && within(0, 1000000, cost) && self.climbs(k, start, cost)
         } else {
             (start == 0) & (cost == 0)
         }
@@ -133,9 +130,8 @@ impl<'a> Row<'a> {
         ensures { result ≡ good_row self.entry.0.now }
     {
         let used = self.used();
-        within(1, 8, figure(self.0, 0))
-            & (self.start(0) == 0)
-            & (0..8).all(|k| self.is_good_step(used, k))
+        let begun = within(1, 8, figure(self.0, 0)) & (self.start(0) == 0);
+        begun && (0..8).all(|k| self.is_good_step(used, k))
     }
 
     // The cost of the last used step whose start is not after the arrival.
@@ -154,14 +150,16 @@ impl<'a> Row<'a> {
 }
 
 // Whether a train's figures keep their rule.
-#[tactic(auto, unfolding(rules::specs::Objectives::lateness, rules::specs::Objectives::weighted, rules::specs::Objectives::by_rows))]
+#[tactic(auto, using(crate::proofs::Table::good_listed), unfolding(rules::specs::Objectives::lateness, rules::specs::Objectives::weighted, rules::specs::Objectives::by_rows))]
 pub fn good(objective: u32, figures: &[i32]) -> bool
     ensures { result ≡ (aim_of objective).good figures.now }
 {
+    if listed(objective) {
+        return Row(figures).is_good();
+    }
     match Aim::of(objective) {
         Aim::Lateness => within(-1000000, 1000000, figure(figures, 0)),
-        Aim::Weighted => within(0, 10000, figure(figures, 0)),
-        Aim::Summed | Aim::Largest => Row(figures).is_good(),
+        _ => within(0, 10000, figure(figures, 0)),
     }
 }
 

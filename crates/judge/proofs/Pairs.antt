@@ -1,16 +1,29 @@
 -- The pairs of numbers that pass a test, by the first number of the first of them, and by its second.
-use mathlib.Core.Bool.{Bool}
+use mathlib.Core.Bool.{Bool, true, false}
 use mathlib.Core.List.{List, [], ◌++◌, map}
 use mathlib.Core.Logic.{by_cases}
 use mathlib.Core.Path.{◌≡◌, refl}
 use Prim.Native.Nat.{ℕ, zero, suc, ◌+◌, ◌≤◌, ◌<◌}
 use native.Mathlib.Decide.{ℕ_discrete}
 use native.Mathlib.Omega.{arith}
-use Rattle.std.specs.Prelude.{Some}
+use Rattle.std.specs.Prelude.{Option, None, Some, MatchOption}
 use Rattle.rules.specs.Lists.{those, pairs, count_from}
 use Rattle.rules.proofs.Lists.{those_append}
 use Rattle.refusals.specs.First.{NonePass, IsFirst}
 use Rattle.refusals.proofs.First.{Begins, begins_append, none_pass, first_passes}
+
+module _ (p : ℕ → Bool) (k m n : ℕ) where
+  -- the first of a range is the first of one that goes on
+  pub first_before : (i : ℕ) → m ≤ n → IsFirst p k m (Some i) → IsFirst p k n (Some i)
+  first_before i l (from, before, passes, none) = (from, omega arith, passes, none)
+
+  -- of tests that say what they do of the numbers of their range alone
+  pub first_there : (found : Option ℕ)
+      → MatchOption found ((j : ℕ) → k ≤ j → j < n → k ≤ j → j < n → p j ≡ false)
+      (λ i. (k ≤ i) × (i < n) × (k ≤ i → i < n → p i ≡ true) × ((j : ℕ) → k ≤ j → j < i → k ≤ j → j < n → p j ≡ false))
+      → IsFirst p k n found
+  first_there None none = λ j l h. none j l h l h
+  first_there (Some i) (from, before, passes, none) = (from, before, passes from before, λ j l h. none j l h l (omega arith))
 
 module _ (test : ℕ → ℕ → Bool) where
   abbrev both : ℕ × ℕ → Bool

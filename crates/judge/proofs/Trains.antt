@@ -19,6 +19,10 @@ module _ (S : Section) {n : ℕ} (k : ℕ) (counted : n ≡ count_at S one) wher
       let past : k ≡ count_at S one + (k - n) = omega arith in
       ap (nth S) past ∙ nth_two S (k - n)
 
+  pub ones_within : n ≤ count S
+  unfolding count
+  ones_within = omega arith
+
   pub station_one : k < n → one ≡ (nth S k).station
   unfolding train_at
   station_one h = rw (first_trains h)

@@ -1,5 +1,5 @@
 // A recorded schedule: which two of its trains are in conflict, and what it is worth.
-ghost use Rattle.std.specs.Prelude.{◌≡◌, ◌+◌, ◌*◌, ◌<◌, ◌≤◌, suc, length, take, drop};
+ghost use Rattle.std.specs.Prelude.{◌≡◌, List, ℕ, ◌+◌, ◌*◌, ◌<◌, ◌≤◌, suc, length, get_or, take, drop};
 ghost use Rattle.rules.specs.declared.Station.TheVariants.{One as one};
 ghost use Rattle.rules.specs.Objectives.{aim_of};
 ghost use Rattle.rules.specs.Trains.{told, count_at, count};
@@ -61,26 +61,38 @@ impl<'a> Recorded<'a> {
         }
     }
 
-    // Whether two trains, the first with the smaller number, break R1, R2 or, where list order is kept, R3.
+    // Whether two trains, the first with the smaller number, break R1, R2 or, where list order is kept, R3: by their stations and departures.
     #[tactic(auto, unfolding(crate::specs::Recorded::clash, rules::specs::Safe::keeps, rules::specs::Safe::in_order, rules::specs::Trains::aim))]
-    fn clash(&self, i: usize, j: usize) -> bool
-        requires { (i < length self.now.departures.now) × (j < length self.now.departures.now) }
-        ensures { result ≡ clash (told self.now.section) self.now.departures.now i j }
+    fn clash(&self, station: Station, departure: u32, other: Station, departed: u32) -> bool
+        ensures { (ds : List ℕ) (i j : ℕ) → station ≡ (nth (told self.now.section) i).station → departure ≡ get_or ds i 0
+            → other ≡ (nth (told self.now.section) j).station → departed ≡ get_or ds j 0
+            → result ≡ clash (told self.now.section) ds i j }
     {
-        let station = self.station(i);
-        let other = self.station(j);
-        let departure = self.departures[i];
-        let departed = self.departures[j];
         !line::apart(self.section.timing, station, departure, other, departed)
             || self.listed && line::same(station, other) && departed <= departure
     }
 
-    // The first train after the i-th that is in conflict with it.
+    // The first train in conflict with the i-th, of those from one number on and below another, which are all of one station.
+    fn conflict_among(&self, i: usize, other: Station, from: usize, end: usize) -> Option<usize>
+        requires numbered { (i < length self.now.departures.now) × (end ≤ length self.now.departures.now) }
+        requires there { (j : ℕ) → from ≤ j → j < end → other ≡ (nth (told self.now.section) j).station }
+        ensures { IsFirst (clash (told self.now.section) self.now.departures.now i) from end result }
+    {
+        let station = self.station(i);
+        let departure = self.departures[i];
+        (from..end).find(|&j| self.clash(station, departure, other, self.departures[j]))
+    }
+
+    // The first train after the i-th that is in conflict with it: of those of station 1, else of those of station 2.
     fn conflict_after(&self, i: usize) -> Option<usize>
         requires { i < length self.now.departures.now }
         ensures { IsFirst (clash (told self.now.section) self.now.departures.now i) (suc i) (length self.now.departures.now) result }
     {
-        (i + 1..self.departures.len()).find(|&j| self.clash(i, j))
+        let twos = self.ones.max(i + 1);
+        if let Some(j) = self.conflict_among(i, Station::One, i + 1, twos) {
+            return Some(j);
+        }
+        self.conflict_among(i, Station::Two, twos, self.departures.len())
     }
 
     // The first train in conflict with a later one, and the first of those.

@@ -2,7 +2,7 @@
 // specs/Reasons has what a reason tells, specs/First and specs/Trains what the searches find.
 #![tactic(auto)]
 
-ghost use Rattle.std.specs.Prelude.{◌&&◌, ◌||◌, not, ◌≡◌, ◌%◌, ◌≤◌, eqb, ltb, pos, length};
+ghost use Rattle.std.specs.Prelude.{◌&&◌, ◌||◌, not, ◌≡◌, ◌%◌, ◌<◌, ◌≤◌, eqb, ltb, pos, length};
 ghost use Rattle.rules.specs.Line.{good_timing};
 ghost use Rattle.rules.specs.Objectives.{aim_of};
 ghost use Rattle.rules.specs.Refusals.{known, call_refusals, train_refusals, refusals};
@@ -133,13 +133,21 @@ fn call_refusal(section: Section) -> Result<(), Reason>
     Ok(())
 }
 
+// Whether the train after k others of a list breaks its rule.
+#[tactic(auto, using(crate::proofs::Table::train_within), unfolding(crate::specs::Trains::bad_at))]
+fn is_bad(objective: u32, list: &[i32], k: usize) -> bool
+    requires { k < trains_in objective list.now }
+    ensures { result ≡ bad_at objective list.now k }
+{
+    let numbers = costs::numbers(objective);
+    !costs::good(objective, &list[k * numbers..k * numbers + numbers])
+}
+
 // The first train of a list that breaks its rule.
-#[tactic(auto, using(crate::proofs::Table::numbers_positive))]
 fn first_bad(objective: u32, list: &[i32]) -> Option<usize>
     ensures { IsFirst (bad_at objective list.now) 0 (trains_in objective list.now) result }
 {
-    list.chunks_exact(costs::numbers(objective))
-        .position(|figures| !costs::good(objective, figures))
+    (0..trains_in(objective, list)).find(|&k| is_bad(objective, list, k))
 }
 
 // Refusals 6 and 7, which its trains settle, where there are few enough to be named.
