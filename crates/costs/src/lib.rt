@@ -157,10 +157,11 @@ pub fn good(objective: u32, figures: &[i32]) -> bool
     if listed(objective) {
         return Row(figures).is_good();
     }
-    match Aim::of(objective) {
-        Aim::Lateness => within(-1000000, 1000000, figure(figures, 0)),
-        _ => within(0, 10000, figure(figures, 0)),
-    }
+    let (least, most) = match Aim::of(objective) {
+        Aim::Lateness => (-1000000, 1000000),
+        _ => (0, 10000),
+    };
+    within(least, most, figure(figures, 0))
 }
 
 // What a train costs that arrives at a second.

@@ -12,18 +12,17 @@ use Rattle.rules.proofs.Lists.{those_append}
 use Rattle.refusals.specs.First.{NonePass, IsFirst}
 use Rattle.refusals.proofs.First.{Begins, begins_append, none_pass, first_passes}
 
-module _ (p : ℕ → Bool) (k m n : ℕ) where
-  -- the first of a range is the first of one that goes on
-  pub first_before : (i : ℕ) → m ≤ n → IsFirst p k m (Some i) → IsFirst p k n (Some i)
-  first_before i l (from, before, passes, none) = (from, omega arith, passes, none)
+-- the first of a range is the first of one that goes on
+pub first_before : (p : ℕ → Bool) (k m n i : ℕ) → m ≤ n → IsFirst p k m (Some i) → IsFirst p k n (Some i)
+first_before p k m n i l (from, before, passes, none) = (from, omega arith, passes, none)
 
-  -- of tests that say what they do of the numbers of their range alone
-  pub first_there : (found : Option ℕ)
-      → MatchOption found ((j : ℕ) → k ≤ j → j < n → k ≤ j → j < n → p j ≡ false)
-      (λ i. (k ≤ i) × (i < n) × (k ≤ i → i < n → p i ≡ true) × ((j : ℕ) → k ≤ j → j < i → k ≤ j → j < n → p j ≡ false))
-      → IsFirst p k n found
-  first_there None none = λ j l h. none j l h l h
-  first_there (Some i) (from, before, passes, none) = (from, before, passes from before, λ j l h. none j l h l (omega arith))
+-- what a search finds that says of a number that it passes, or not, where it lies in the range
+pub first_there : (p : ℕ → Bool) (k n : ℕ) (found : Option ℕ)
+    → MatchOption found ((j : ℕ) → k ≤ j → j < n → k ≤ j → j < n → p j ≡ false)
+    (λ i. (k ≤ i) × (i < n) × (k ≤ i → i < n → p i ≡ true) × ((j : ℕ) → k ≤ j → j < i → k ≤ j → j < n → p j ≡ false))
+    → IsFirst p k n found
+first_there p k n None none = λ j l h. none j l h l h
+first_there p k n (Some i) (from, before, passes, none) = (from, before, passes from before, λ j l h. none j l h l (omega arith))
 
 module _ (test : ℕ → ℕ → Bool) where
   abbrev both : ℕ × ℕ → Bool

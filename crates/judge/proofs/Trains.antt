@@ -9,6 +9,10 @@ use Rattle.rules.proofs.Trains.{nth, nth_one, nth_two}
 use Rattle.refusals.specs.Trains.{trains_in}
 use Rattle.refusals.proofs.Table.{train_within}
 
+pub ones_within : (S : Section) {n : ℕ} → n ≡ count_at S one → n ≤ count S
+unfolding count
+ones_within S counted = omega arith
+
 -- station 1 has n trains
 module _ (S : Section) {n : ℕ} (k : ℕ) (counted : n ≡ count_at S one) where
   first_trains : k < n → nth S k ≡ train_at S one k
@@ -18,10 +22,6 @@ module _ (S : Section) {n : ℕ} (k : ℕ) (counted : n ≡ count_at S one) wher
   later_trains h =
       let past : k ≡ count_at S one + (k - n) = omega arith in
       ap (nth S) past ∙ nth_two S (k - n)
-
-  pub ones_within : n ≤ count S
-  unfolding count
-  ones_within = omega arith
 
   pub station_one : k < n → one ≡ (nth S k).station
   unfolding train_at

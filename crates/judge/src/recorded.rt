@@ -61,7 +61,7 @@ impl<'a> Recorded<'a> {
         }
     }
 
-    // Whether two trains, the first with the smaller number, break R1, R2 or, where list order is kept, R3: by their stations and departures.
+    // Whether two trains, by their stations and departures, the first with the smaller number, break R1, R2 or, where list order is kept, R3.
     #[tactic(auto, unfolding(crate::specs::Recorded::clash, rules::specs::Safe::keeps, rules::specs::Safe::in_order, rules::specs::Trains::aim))]
     fn clash(&self, station: Station, departure: u32, other: Station, departed: u32) -> bool
         ensures { (ds : List ℕ) (i j : ℕ) → station ≡ (nth (told self.now.section) i).station → departure ≡ get_or ds i 0
@@ -72,7 +72,8 @@ impl<'a> Recorded<'a> {
             || self.listed && line::same(station, other) && departed <= departure
     }
 
-    // The first train in conflict with the i-th, of those from one number on and below another, which are all of one station.
+    // The first train in conflict with the i-th, of those from one number on and below another.
+    // They are all of one station, so that what is asked of the two stations is settled before the first is tried.
     fn conflict_among(&self, i: usize, other: Station, from: usize, end: usize) -> Option<usize>
         requires numbered { (i < length self.now.departures.now) × (end ≤ length self.now.departures.now) }
         requires there { (j : ℕ) → from ≤ j → j < end → other ≡ (nth (told self.now.section) j).station }

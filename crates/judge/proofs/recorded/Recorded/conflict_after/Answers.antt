@@ -8,7 +8,7 @@ use Rattle.judge.proofs.recorded.Recorded.conflict_after.Goals as goal
 
 pub conflict_among-requires-clause-numbered : goal.conflict_among-requires-clause-numbered
 conflict_among-requires-clause-numbered c =
-    let ones = ones_within (told c.args.self.now.section) c.args.i c.args.self.now.by_station in
+    let ones = ones_within (told c.args.self.now.section) c.args.self.now.by_station in
     (c.requires, omega (arith, ones, c.args.self.now.each))
 
 pub conflict_among-requires-clause-there : goal.conflict_among-requires-clause-there
@@ -17,7 +17,7 @@ conflict_among-requires-clause-there c = λ j from before.
 
 pub returns-in-Some : goal.returns-in-Some
 returns-in-Some c =
-    let ones = ones_within (told c.args.self.now.section) c.args.i c.args.self.now.by_station in
+    let ones = ones_within (told c.args.self.now.section) c.args.self.now.by_station in
     rw add-one at
     (first_before
     (clash (told c.args.self.now.section) c.args.self.now.departures.now c.args.i)

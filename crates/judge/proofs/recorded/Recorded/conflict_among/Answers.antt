@@ -12,7 +12,6 @@ returns c =
     first_there
     clashes
     c.args.from
-    0
     c.args.end
     c.find.result
     (first_from_Range
