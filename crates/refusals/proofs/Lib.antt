@@ -1,6 +1,5 @@
 -- Laws that the code's proofs rest on.
 pub mod First
-pub mod Chunks
 pub mod Table
 pub mod Reasons
 pub mod Parts
