@@ -65,6 +65,8 @@ fn pair(
 }
 
 // A cell of `counts`: the best from second 0 after station 1's train and after station 2's, and how it rises with the second.
+// Inlined: the loops of objectives 1 and 2 both call it, and a copy that they share asks for the objective at every turn.
+#[inline(always)]
 pub fn count_cell(terms: Terms, next: Next, ones: usize, twos: usize, rests: Rests) -> Rising
     requires chooses { (s : Place) → CanChoose terms (cell_clock s 0 0 ones twos) next rests }
     requires rates { CanRate terms.objective next ones twos rests }

@@ -5,4 +5,4 @@ use Rattle.planner.specs.Filled.{section_of}
 use Rattle.planner.proofs.tables.fill_row.Given as goal
 
 abbrev pub invariant-loop-twos : goal.invariant-loop-twos
-invariant-loop-twos l = Tables (section_of l.day) l.counts l.changes (l.ones * 49 + l.twos)
+invariant-loop-twos g l = Tables (section_of l.day) l.counts l.changes (l.ones * 49 + l.twos)
