@@ -149,7 +149,7 @@ impl<'a> Row<'a> {
     }
 }
 
-// Whether a train's figures keep their rule.
+// Whether a train's figures keep their rule. Rows are told by `listed`, a test that a search over trains makes once, and not for each train.
 #[tactic(auto, using(crate::proofs::Table::good_listed), unfolding(rules::specs::Objectives::lateness, rules::specs::Objectives::weighted, rules::specs::Objectives::by_rows))]
 pub fn good(objective: u32, figures: &[i32]) -> bool
     ensures { result ≡ (aim_of objective).good figures.now }

@@ -69,7 +69,7 @@ impl<'a> Walk<'a> {
         }
     }
 
-    // When each station's trains leave, on the way that comes to the goal.
+    // When each station's trains leave, on the way that comes to the goal: while the clock has trains left, which no index counts.
     pub fn times(self, goal: i64) -> Timetable
         ensures { Walks (section_of self.entry.day.now) goal result.one result.two }
     {
