@@ -40,7 +40,7 @@ impl<const N: usize> Page<N> {
     }
 
     // Writes bytes after those written, as many as there is room for.
-    // One by one: `copy_from_slice` makes the library for C need `memmove` from outside, which it did not.
+    // One by one: by `copy_from_slice` here, the library for C would need `memmove` from outside, which it does not.
     #[tactic(auto, using(crate::proofs::Pages::blank_after, crate::proofs::Pages::written_on))]
     pub fn put(&mut self, bytes: &[u8])
         ensures { self.new ≡ take N (self.old ++ bytes.now) }
