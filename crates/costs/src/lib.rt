@@ -2,8 +2,8 @@
 // Figures are a train's numbers in its list. Every public function is a column of the rules' table.
 #![tactic(auto)]
 
-ghost use Rattle.std.specs.Prelude.{◌≡◌, ◌<◌, ◌+◌, min, pos};
-ghost use Rattle.rules.specs.Figures.{figure, within, step_count, good_row, row_cost};
+ghost use Rattle.std.specs.Prelude.{◌&&◌, ◌≡◌, ◌<◌, ◌+◌, min, pos};
+ghost use Rattle.rules.specs.Figures.{figure, within, is_zero, step_count, good_row, row_cost};
 ghost use Rattle.rules.specs.Objectives.{aim_of};
 ghost use Rattle.costs.specs.Aims.{row_of};
 ghost use Rattle.costs.specs.Steps.{climbs, good_step};
@@ -125,13 +125,20 @@ impl<'a> Row<'a> {
         }
     }
 
+    // Whether a row begins well: with a step count of 1 to 8 and a first step that starts at 0.
+    #[tactic(auto, using(crate::proofs::Ranges::zero_bits))]
+    fn begins(self) -> bool
+        ensures { result ≡ (within (pos 1) (pos 8) (figure self.entry.0.now 0) && is_zero (figure self.entry.0.now 1)) }
+    {
+        within(1, 8, figure(self.0, 0)) & (self.start(0) == 0)
+    }
+
     // The rule of a row: its step count, its first start and its eight steps.
     fn is_good(self) -> bool
         ensures { result ≡ good_row self.entry.0.now }
     {
         let used = self.used();
-        let begun = within(1, 8, figure(self.0, 0)) & (self.start(0) == 0);
-        begun && (0..8).all(|k| self.is_good_step(used, k))
+        self.begins() && (0..8).all(|k| self.is_good_step(used, k))
     }
 
     // The cost of the last used step whose start is not after the arrival.
